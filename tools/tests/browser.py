@@ -10,6 +10,8 @@ import urllib.error
 import urllib.request
 from typing import Any
 
+from support import FolderTest
+
 CHROMIUM, DRIVER = shutil.which("chromium"), shutil.which("chromedriver")
 NULL, SHIFT, CTRL, TAB, ENTER, RIGHT = "\ue000", "\ue008", "\ue009", "\ue004", "\ue007", "\ue014"  # in WebDriver
 HELD = (SHIFT, CTRL)
@@ -124,3 +126,18 @@ class Browser:
         finally:
             self.process.terminate()
             self.process.wait()
+
+
+@needs_browser
+class BrowserTest(FolderTest):
+    """A folder of its own for each test, and one browser for all of the class."""
+
+    browser: Browser
+
+    @classmethod
+    def setUpClass(cls) -> None:
+        cls.browser = Browser()
+
+    @classmethod
+    def tearDownClass(cls) -> None:
+        cls.browser.close()

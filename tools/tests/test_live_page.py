@@ -12,9 +12,9 @@ import zipfile
 from pathlib import Path
 from typing import Any
 
-from browser import CTRL, ENTER, NULL, RIGHT, SHIFT, TAB, Browser, needs_browser
+from browser import CTRL, ENTER, NULL, RIGHT, SHIFT, TAB, BrowserTest
 from made_live import needs_live
-from support import BUILT, CLONE, EXAMPLES, FolderTest, needs_splits
+from support import BUILT, CLONE, EXAMPLES, needs_splits
 from ltm_tools.case import Case, Limit
 from ltm_tools.formats import told_time
 from ltm_tools.listing import HOURS
@@ -22,20 +22,9 @@ from ltm_tools.listing import HOURS
 HOSTILE = "<img src=x onerror=document.title=1>"
 
 
-@needs_browser
 @needs_live
 @needs_splits
-class Page(FolderTest):
-    browser: Browser
-
-    @classmethod
-    def setUpClass(cls) -> None:
-        cls.browser = Browser()
-
-    @classmethod
-    def tearDownClass(cls) -> None:
-        cls.browser.close()
-
+class Page(BrowserTest):
     def serve(self, name: str = "closures") -> str:
         """Serves a case with a signal under a name, and opens its page: the address."""
         self.where = self.folder / name

@@ -8,7 +8,7 @@ from pathlib import Path
 from typing import Any
 from unittest import mock
 
-from browser import ENTER, RIGHT, Browser, needs_browser
+from browser import ENTER, RIGHT, BrowserTest
 from support import FolderTest
 from test_delay import DATA, read
 from test_from_sumo import edge
@@ -186,18 +186,7 @@ class Imported(FolderTest):
 
 
 @needs_d3
-@needs_browser
-class InABrowser(FolderTest):
-    browser: Browser
-
-    @classmethod
-    def setUpClass(cls) -> None:
-        cls.browser = Browser()
-
-    @classmethod
-    def tearDownClass(cls) -> None:
-        cls.browser.close()
-
+class InABrowser(BrowserTest):
     def text(self, selector: str) -> str:
         return str(self.browser.run("return document.querySelector(arguments[0]).textContent", selector))
 
