@@ -36,3 +36,5 @@ mod records;
 mod reports;
 #[cfg(test)]
 mod scripts;
+#[cfg(test)]
+mod setup_columns;
