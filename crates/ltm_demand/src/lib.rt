@@ -1,10 +1,11 @@
-//! The demand of a case: rows of vehicles from an origin to a destination over some slots, and what they have produced
-//! by the end of each slot.
-//!
-//! It stands on `ltm_units` alone. To ask what an origin has produced by a slot, for one destination, for each or for all
-//! together, reads one row of the origin's table, and takes no memory; to set a row costs the rows of its origin that
-//! move and a sum for each slot of that table. Change it here where demand starts otherwise than evenly over the slots of
-//! a row, in whole thousandths, floored.
+//! - **What it is**: the demand of a case: rows of vehicles from an origin to a destination over some slots, and what
+//!   they have produced by the end of each slot.
+//! - **On what it stands**: `ltm_units` alone.
+//! - **What a call costs**: to ask what an origin has produced by a slot, for one destination, for each or for all
+//!   together, reads one row of the origin's table, and takes no memory; to set a row costs the rows of its origin that
+//!   move and a sum for each slot of that table.
+//! - **When to change it here**: where demand starts otherwise than evenly over the slots of a row, in whole thousandths,
+//!   floored.
 #![tactic(auto)]
 
 mod all_rows;

@@ -1,12 +1,14 @@
-//! What a node reads in a slot: the inputs of its node step, from a scenario and the counts of a loading so far.
-//!
-//! The row of inputs has seven parts: what each arm sends, what has left each arm, what has entered each out-link, what has
-//! arrived, what each out-link can take, the capacity of each arm, and the weights. Each is written in its place. The row is
-//! read with 0 for each count, which is enough to tell what moves, and its counts are written in later (`count_in`), the
-//! counts of a link for all destinations at once. `inputs_of` does both, for callers outside this repository: no crate here
-//! needs the counts of a row before it has told what moves. A call takes no memory. It stands on
-//! `ltm_sending`, `ltm_setting` and `ltm_node`. Change it here when a pair is to read something more; where each number
-//! stands is the concern of `ltm_node`.
+//! - **What it is**: what a node reads in a slot: the inputs of its node step, from a scenario and the counts of a
+//!   loading so far. The row of inputs has seven parts: what each arm sends, what has left each arm, what has entered
+//!   each out-link, what has arrived, what each out-link can take, the capacity of each arm, and the weights. Each is
+//!   written in its place. The row is read with 0 for each count, which is enough to tell what moves, and its counts are
+//!   written in later (`count_in`), the counts of a link for all destinations at once. `inputs_of` does both, for callers
+//!   outside this repository: no crate here needs the counts of a row before it has told what moves.
+//! - **On what it stands**: `ltm_sending` and `ltm_setting` for the numbers, and `ltm_node` for their places in the row.
+//! - **What a call costs**: some reads of flat tables for each arm and out-link, and one for each weight. No call takes
+//!   memory.
+//! - **When to change it here**: when a pair is to read something more; where each number stands is the concern of
+//!   `ltm_node`.
 #![tactic(auto)]
 
 mod capacities;

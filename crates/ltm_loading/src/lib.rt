@@ -1,14 +1,14 @@
-//! What a loading of a network is, and what holds of every loading.
-//!
-//! A loading is a condition on finished counts: every pair of node and slot meets the node step of what it reads, which
-//! are counts at earlier boundaries. It is said over plain numbers, a `Setting`, so that the laws hold whatever tells
-//! them; two loadings are compared pair by pair (`differing`). (Sending and receiving of a link: Yperman 2007, after
-//! Newell 1993. Composition by destination, origins and whole units are this engine's own.)
-//!
-//! It stands on `ltm_curve` and `ltm_node`. A law is the contract of a function with an empty body, which costs nothing
-//! to call. What runs are the numbers of groups alone: where the counts of a link stand (`up_of`, `down_of`), of an origin
-//! (`dep_behind`), and what has arrived (`arr_behind`). Change it where the meaning of a loading changes, or where a crate
-//! above wants a law of loadings that is not here.
+//! - **What it is**: what a loading of a network is, and what holds of every loading. A loading is a condition on
+//!   finished counts: every pair of node and slot meets the node step of what it reads, which are counts at earlier
+//!   boundaries. It is said over plain numbers, a `Setting`, so that the laws hold whatever tells them; two loadings are
+//!   compared pair by pair (`differing`). (Sending and receiving of a link: Yperman 2007, after Newell 1993. Composition
+//!   by destination, origins and whole units are this engine's own.)
+//! - **On what it stands**: `ltm_curve` and `ltm_node`.
+//! - **What a call costs**: nothing: a law is the contract of a function with an empty body. What runs are the numbers of
+//!   groups alone: where the counts of a link stand (`up_of`, `down_of`), of an origin (`dep_behind`), and what has
+//!   arrived (`arr_behind`).
+//! - **When to change it here**: where the meaning of a loading changes, or where a crate above wants a law of loadings
+//!   that is not here.
 #![tactic(auto)]
 
 mod groups;

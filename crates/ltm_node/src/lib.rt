@@ -1,10 +1,10 @@
-//! The node step: what moves from the arms of a node to its out-links and its sink in one slot.
-//!
-//! An arm is an in-link or the origin of the node. It stands on `ltm_shares`, which shares out what the out-links can
-//! take. A call of `solve` takes no memory. Where no out-link is short it makes one pass over what the arms send, in 64
-//! bits; else it makes at most one round for each arm, and a second pass. `shape_as` and the writers of single numbers
-//! (`set_sending` and so on) are for callers outside this repository: a loading writes whole parts of the row in place.
-//! Change it here when the node step or the layout of its row changes.
+//! - **What it is**: the node step: what moves from the arms of a node to its out-links and its sink in one slot. An arm
+//!   is an in-link or the origin of the node. `shape_as` and the writers of single numbers (`set_sending` and so on) are
+//!   for callers outside this repository: a loading writes whole parts of the row in place.
+//! - **On what it stands**: `ltm_shares`, which shares out what the out-links can take.
+//! - **What a call costs**: where no out-link is short, `solve` makes one pass over what the arms send, in 64 bits; else
+//!   it makes at most one round for each arm, and a second pass. It takes no memory.
+//! - **When to change it here**: when the node step or the layout of its row changes.
 #![tactic(auto)]
 
 mod inputs;

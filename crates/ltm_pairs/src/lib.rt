@@ -1,9 +1,10 @@
-//! Which pairs of node and slot read what an edit or a commit changes.
-//!
-//! It stands on `ltm_setting` and `ltm_loading` for what a pair reads, and on `ltm_repair` for what a commit is. A call
-//! costs a look-up of a name or a few accesses for each link of a node, and takes no memory. `dependents`, which sees no
-//! counts, is for callers outside this repository: the core here sees them, and marks by `reads_commit`. Change it here when an edit
-//! gets a further kind, or when a pair is to read something that it did not read before.
+//! - **What it is**: which pairs of node and slot read what an edit or a commit changes. `dependents`, which sees no
+//!   counts, is for callers outside this repository: the core here sees them, and marks by `reads_commit`.
+//! - **On what it stands**: `ltm_setting` and `ltm_loading` for what a pair reads, `ltm_index` for the slots that read a
+//!   boundary, and `ltm_repair` for what a commit is.
+//! - **What a call costs**: a look-up of a name or a few accesses for each link of a node. No call takes memory.
+//! - **When to change it here**: before an edit gets a further kind, or when a pair is to read something that it did not
+//!   read before.
 #![tactic(auto)]
 
 mod arm_set;

@@ -1,15 +1,13 @@
-//! The theory of a repair: what any number of owners may do to a half-repaired loading, in any order, so that it ends as
-//! the loading of the edited scenario.
-//!
-//! A repair keeps of each pair of node and slot the inputs of its last node step. A pair that reads other numbers now is
-//! active or claimed; claims are of the front slot alone, where what a pair reads is final. What each call answers, and
-//! exactly when, stands in `specs/Answers.antt`; what holds at any time is `IsRepair`, whatever holds the state. (To repair
-//! a loading by the pairs that changed, after Himpe, Corthout and Tampère 2016; the order, the claims and the count are
-//! this engine's own.)
-//!
-//! It stands on `ltm_loading`. No code here runs: a law is the contract of a function with an empty body. Change it where
-//! an event, an answer or a fact of the repair changes; code that makes the events proves that it does, and nothing here
-//! names it.
+//! - **What it is**: the theory of a repair: what any number of owners may do to a half-repaired loading, in any order,
+//!   so that it ends as the loading of the edited scenario. A repair keeps of each pair of node and slot the inputs of
+//!   its last node step. A pair that reads other numbers now is active or claimed; claims are of the front slot alone,
+//!   where what a pair reads is final. What each call answers, and exactly when, stands in `specs/Answers.antt`; what
+//!   holds at any time is `IsRepair`, whatever holds the state. (To repair a loading by the pairs that changed, after
+//!   Himpe, Corthout and Tampère 2016; the order, the claims and the count are this engine's own.)
+//! - **On what it stands**: `ltm_loading`.
+//! - **What a call costs**: nothing: no code here runs, a law is the contract of a function with an empty body.
+//! - **When to change it here**: where an event, an answer or a fact of the repair changes; code that makes the events
+//!   proves that it does, and nothing here names it.
 #![tactic(auto)]
 
 mod laws;

@@ -1,16 +1,12 @@
-//! Rows of what pairs of node and slot read, kept in few bits, and whether a row is equal to one that is kept.
-//!
-//! **What it is**: two tables of rows. `KeptRows` has a row for each pair of node and slot, without the counts of its node: 16
-//! bits for each amount, and 32 for each weight. `ClaimRows` has one for each node, of all that it reads, in 32 bits each. They
-//! know no repair: not why a row is kept, and not when it is out of date.
-//!
-//! **On what it stands**: `ltm_inputs` for how wide the rows of a node are, and `ltm_marks` for which rows are there.
-//!
-//! **What a call costs**: a comparison ends at the first number that differs, and a copy moves four numbers at a time. Only
-//! `create` and `reserve` take memory.
-//!
-//! **When to change it here**: when rows are to take fewer bits or to lie in another order. What is kept of a pair is said in
-//! `parts`, and contracts above speak of `kept_row` and `claim_row` alone.
+//! - **What it is**: rows of what pairs of node and slot read, kept in few bits, and whether a row is equal to one that
+//!   is kept. `KeptRows` has a row for each pair of node and slot, without the counts of its node: 16 bits for each
+//!   amount, and 32 for each weight. `ClaimRows` has one for each node, of all that it reads, in 32 bits each. They know
+//!   no repair: not why a row is kept, and not when it is out of date.
+//! - **On what it stands**: `ltm_inputs` for how wide the rows of a node are, and `ltm_marks` for which rows are there.
+//! - **What a call costs**: a comparison ends at the first number that differs, and a copy moves four numbers at a time.
+//!   Only `create` and `reserve` take memory.
+//! - **When to change it here**: when rows are to take fewer bits or to lie in another order. What is kept of a pair is
+//!   said in `parts`, and contracts above speak of `kept_row` and `claim_row` alone.
 #![tactic(auto)]
 
 mod claim_rows;

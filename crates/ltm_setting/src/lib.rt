@@ -1,9 +1,11 @@
-//! What a loading reads of a scenario, number by number.
-//!
-//! A loading is defined over a `Setting`, a record of numbers, and knows no tables and no names. The word `setting_of`
-//! makes one of a scenario's data, and the calls here read each of its numbers from the tables of a `Scenario`, on which
-//! this crate stands, and list the groups of a node in the order of its row (`NodeGroups`). Each costs an access or two and takes no memory. What is read is a setting whatever the scenario
-//! (`is_setting`), so every law of loadings holds of it. Change it here where a loading is to read something more.
+//! - **What it is**: what a loading reads of a scenario, number by number. A loading is defined over a `Setting`, a
+//!   record of numbers, and knows no tables and no names. The word `setting_of` makes one of a scenario's data, and the
+//!   calls here read each of its numbers from the tables of a `Scenario`, and list the groups of a node in the order of
+//!   its row (`NodeGroups`). What is read is a setting whatever the scenario (`is_setting`), so every law of loadings
+//!   holds of it.
+//! - **On what it stands**: `ltm_scenario` for the tables, and `ltm_loading` for what a setting is.
+//! - **What a call costs**: an access or two each, and no memory.
+//! - **When to change it here**: where a loading is to read something more.
 #![tactic(auto)]
 
 mod groups;

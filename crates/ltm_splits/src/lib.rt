@@ -1,9 +1,11 @@
-//! Split rows: how the traffic of a node for a destination is spread over the node's out-links, from a slot on.
-//!
-//! It stands on `ltm_units` alone. To ask for the row in force costs two steps through flat lists where a node and a
-//! destination have one row, which lies in the second of them, and a search by halving where they have more. To set a
-//! row costs a move of that short list at most, and to put another list in its place no copy at all. Change it here where
-//! a row means something else, or comes into force otherwise than from its first slot on. Contracts see a table as its horizon and the list of its rows in the order of their keys.
+//! - **What it is**: split rows: how the traffic of a node for a destination is spread over the node's out-links, from a
+//!   slot on. Contracts see a table as its horizon and the list of its rows in the order of their keys.
+//! - **On what it stands**: `ltm_units` alone.
+//! - **What a call costs**: to ask for the row in force costs two steps through flat lists where a node and a destination
+//!   have one row, which lies in the second of them, and a search by halving where they have more. To set a row costs a
+//!   move of that short list at most, and to put another list in its place no copy at all.
+//! - **When to change it here**: where a row means something else, or comes into force otherwise than from its first slot
+//!   on.
 #![tactic(auto)]
 
 mod keys;
