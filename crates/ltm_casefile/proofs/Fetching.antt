@@ -69,18 +69,7 @@ others_stay files texts opened before mid now there is first then d none =
     then d (right_false (is_of_each d) (is_asked opened.asked d) neither) ∙ first d (left_false (is_of_each d) (is_asked opened.asked d) neither)
 
 -- a file that no case has is not asked for
-pub never_asked : (asked : Asked) (d : Doc) → is_case_file d ≡ false → is_asked asked d ≡ false
-never_asked asked doc.Signals none = cc
-never_asked asked doc.Limits none = cc
-never_asked asked other none = refl
-
-pub never_each : (d : Doc) → is_case_file d ≡ false → is_of_each d ≡ false
-never_each d none = left_false (is_of_each d) _ none
-
 -- ---- one of the two files
-pub no_signals : (asked : Asked) (d : Doc) → is_asked asked d ≡ false → Some doc.Signals ≡ Some d → asked.signals ≡ false
-no_signals asked d none is = let same : d ≡ doc.Signals = cc in ap (is_asked asked) (sym same) ∙ none
-
 pub no_limits : (asked : Asked) (d : Doc) → is_asked asked d ≡ false → Some doc.Limits ≡ Some d → asked.limits ≡ false
 no_limits asked d none is = let same : d ≡ doc.Limits = cc in ap (is_asked asked) (sym same) ∙ none
 

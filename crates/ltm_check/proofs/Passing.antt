@@ -28,14 +28,6 @@ none_passes waits old = (0, omega arith, nothing_more old, refl)
 pub no_front : (bytes : List ℕ) (old : Option (List ℕ)) → AppendsFront old old bytes
 no_front bytes old = (0, omega arith, nothing_more old)
 
-pub all_passes : (bytes waits : List ℕ) (old new : Option (List ℕ)) → new ≡ appended bytes old → waits ≡ [] → Passes bytes old new waits
-all_passes bytes waits old new is none = (
-  length bytes,
-  omega arith,
-  is ∙ ap (λ (x : List ℕ). appended x old) (sym (take-length bytes)),
-  none ∙ sym (drop_all (length bytes) bytes (omega arith)),
-)
-
 -- ---- a text more
 pub passes_on : (bytes text : List ℕ) (old mid new : Option (List ℕ)) (waits rest : List ℕ) → Passes bytes old mid waits → Passes (waits ++ text) mid new rest → Passes (bytes ++ text) old new rest
 passes_on bytes text old mid new waits rest (m, l, wrote, left) (n, k, also, more) =
@@ -62,12 +54,6 @@ on_err (Ok a) P holds = tt
 on_err (Err e) P holds = holds
 
 -- ---- the last of it
-pub last_out : (bytes : List ℕ) (old mid new : Option (List ℕ)) (waits : List ℕ) → Passes bytes old mid waits → new ≡ appended waits mid → new ≡ appended bytes old
-last_out bytes old mid new waits (n, l, wrote, left) is =
-    is ∙ (ap (λ (x : List ℕ). appended x mid) left
-    ∙ (ap (appended (drop n bytes)) wrote
-    ∙ (appended_more old (take n bytes) (drop n bytes) ∙ ap (λ (x : List ℕ). appended x old) (take-append-drop n bytes))))
-
 pub last_front : (bytes : List ℕ) (old mid new : Option (List ℕ)) (waits : List ℕ) → Passes bytes old mid waits → AppendsFront mid new waits → AppendsFront old new bytes
 last_front bytes old mid new waits passed front =
     subst (AppendsFront old new) (append-nil bytes) (front_on bytes [] old mid new waits passed (subst (AppendsFront mid new) (sym (append-nil waits)) front))

@@ -22,14 +22,7 @@ use Rattle.ltm_check.specs.Kept.{Keeps}
 use Rattle.ltm_check.specs.Pieces.{IsReadTo, HasRead, CutAtLineEnd, AnswersFile, EndsWith}
 use Rattle.ltm_check.proofs.Placing.{KeepsBelow, none_drop, fault_missing, no_fault, right_next, keeps_all}
 
-some_fields : (a b : Fields) → Some a ≡ Some b → a ≡ b
-some_fields a b e = grind (arith, common_steps)
-
 -- the first record, and those below it
-pub headed_by : (records : List Fields) (fields : Fields) → slice_get records 0 ≡ Some fields → is_headed records ≡ is_curves_header fields
-headed_by [] fields e = cc e
-headed_by (header ∷ rows) fields e = ap is_curves_header (some_fields header fields e)
-
 pub row_below : (records : List Fields) (place : ℕ) → slice_get (rows_of records) place ≡ slice_get records (place + 1)
 row_below [] place = grind (arith, common_steps)
 row_below (header ∷ rows) place = let e : place + 1 ≡ suc place = omega arith in rw e refl

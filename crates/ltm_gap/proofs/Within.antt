@@ -11,10 +11,6 @@ abbrev pub By : Option ℕ → ℕ → Type 0
 By None time = ⊥
 By (Some t) time = t ≤ time
 
-by_later : (o : Option ℕ) (x y : ℕ) → By o x → x ≤ y → By o y
-by_later None x y by l = absurd by
-by_later (Some t) x y by l = omega arith
-
 pub by_some : (o : Option ℕ) (time : ℕ) → By o time → (t : ℕ) × (o ≡ Some t) × (t ≤ time)
 by_some None time by = absurd by
 by_some (Some t) time by = (t, refl, by)

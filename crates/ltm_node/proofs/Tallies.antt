@@ -17,12 +17,6 @@ use Rattle.ltm_node.proofs.Ranges.{nothing_of}
 use Rattle.ltm_node.proofs.Moved.{moved_none, parts_long, parts_at, parts_sum}
 use Rattle.ltm_node.proofs.Splitting.{split_next}
 
-pub sent_passes : (t : Sent) (n : Inputs) (q : Portion) → Passes n (HasMovedTo t n q)
-sent_passes t n q = λ i j d l none h. record {
-  by_part = h.by_part;
-  total = omega (arith, h.total, sum_below_more (λ k. moved n (denominator q) (numerator q) i k j) d, moved_none n (denominator q) (numerator q) i d j none);
-}
-
 -- a turn at a tally of which both numbers are the same
 pub left_of_same : (t u : Turns) (n : Inputs) (q : Portion) (i j d : ℕ) → sent_at t.left i j ≡ sent_at u.left i j → sent_at t.rest i j ≡ sent_at u.rest i j → IsLeftOf t n q i j d → IsLeftOf u n q i j d
 left_of_same t u n q i j d left rest h =

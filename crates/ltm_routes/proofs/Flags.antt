@@ -32,17 +32,3 @@ least_is r from to a b x y =
     let ea : time_of r ta.0 ≡ a = ta.2 in
     let eb : time_of r tb.0 ≡ b = tb.2 in
     omega arith
-
-least_told : (r : Roads) (from to a : ℕ) (o : Option Millis) → IsLeast r from to a → IsLeastTime r from to o → (t : Millis) × (o ≡ Some t) × (t.0 ≡ a)
-least_told r from to a None x told = let ta = x.taken in absurd (told ta.0 ta.1)
-least_told r from to a (Some t) x told = (t, refl, least_is r from to t.0 a told x)
-
--- ---- one more
-pub pushed_at : {A : Type 0} (xs : List A) (x d : A) → slice_index_or (xs ++ x ∷ []) (length xs) d ≡ x
-pushed_at [] x d = refl
-pushed_at (y ∷ xs) x d = pushed_at xs x d
-
-pub pushed_before : {A : Type 0} (xs : List A) (x d : A) (i : ℕ) → i < length xs → slice_index_or (xs ++ x ∷ []) i d ≡ slice_index_or xs i d
-pushed_before [] x d i low = absurd (omega arith)
-pushed_before (y ∷ xs) x d zero low = refl
-pushed_before (y ∷ xs) x d (suc i) low = pushed_before xs x d i (omega arith)
