@@ -75,6 +75,12 @@ class ByHand(Hand):
             self.assertEqual([session.time("fast", slot).ms for slot in (0, 30, 60, 61, 120, 179)],
                              [40_000, 70_000, *4 * [100_000]])
 
+    def test_names_that_are_words_of_an_answer(self) -> None:
+        """The same where the fast way is called as the word between the two curves of an answer."""
+        made = self.found({name: text.replace("fast", "out") for name, text in TWO.items()}, period_ms=60_000,
+                          iterations=8, size=2.0)
+        self.assertEqual(self.weights(made, "o", 3), [{"out": 1000}, *2 * [{"out": 500, "slow": 500}]])
+
     def test_braess(self) -> None:
         """The bridge makes all but the first slower: 40 vehicles take 140 s in the mean, 40 take 180, 80 take 200."""
         made = self.found(BRAESS, period_ms=40_000, iterations=20, size=2.0)

@@ -113,8 +113,9 @@ class Engine:
 
 
 def two_of(answer: str, word: str, net: Net) -> tuple[Whole, Whole]:
-    """The two rows of counts of an answer to `curve` or `departures`, the second behind a word."""
-    front, _, second = answer.encode().partition(f" {word} ".encode())
+    """The two rows of counts of an answer to `curve` or `departures`, the second behind a word, which the name in front
+    may be too."""
+    front, _, second = answer.encode().rpartition(f" {word} ".encode())
     first = b" ".join(front.split(b" ", 5)[5:])
     found = counts_of(first), counts_of(second)
     if any(counts is None or len(counts) != net.slots + 1 for counts in found):
