@@ -72,6 +72,16 @@ class Files(FolderTest):
                          "step_ms,slots,origin_capacity,limits,cells\n1000,4,1,1,2000\n")
         self.assertEqual(Case.read(self.folder / "written").limits, [Limit("a", 0, 1, 50)])
 
+    def test_a_copy_has_rows_of_its_own(self) -> None:
+        case = Case.read(EXAMPLES / "signal")
+        made = case.copied()
+        self.assertEqual(made, case)
+        made.setup.slots, made.links[0].length_m, made.demand[0].units, made.signals[0].units = 1, 1, 1, 1
+        assert made.splits is not None
+        made.splits[0].weights["a"] = 9
+        made.links.pop()
+        self.assertEqual(case, Case.read(EXAMPLES / "signal"))
+
     def test_rows_that_replace(self) -> None:
         case = Case.read(self.case(demand=ROAD["demand"] + "n1,n2,0,2,3\nn1,n2,0,3,2\nn1,n2,0,3,0\n"))
         self.assertEqual(case.standing_demand(), [Demand("n1", "n2", 0, 2, 3000)])

@@ -1,7 +1,8 @@
 """A case: its rows, read from the files of a folder and written into one."""
 import os
 from collections.abc import Mapping
-from dataclasses import fields
+from copy import copy
+from dataclasses import fields, replace
 from typing import Protocol
 
 from ..errors import Fault
@@ -41,6 +42,12 @@ class Case(Rows):
     def of(cls, rows: Rows) -> "Case":
         """The case of these rows."""
         return cls(*(getattr(rows, field.name) for field in fields(rows)))
+
+    def copied(self) -> "Case":
+        """The same case in rows of its own."""
+        splits = None if self.splits is None else [replace(row, weights=dict(row.weights)) for row in self.splits]
+        return Case(copy(self.setup), [copy(row) for row in self.links], [copy(row) for row in self.demand], splits,
+                    [copy(row) for row in self.signals], [copy(row) for row in self.limits])
 
     def write(self, folder: str | os.PathLike[str]) -> None:
         """Writes the files of the case into a folder, which is made where it is not there. Without splits no

@@ -6,7 +6,6 @@ destinations in theirs.
 """
 from __future__ import annotations
 
-import copy
 import json
 import os
 from collections.abc import Callable, Iterable, Sequence
@@ -89,7 +88,7 @@ class Keeper:
     """A case, and what accepted edits make of it, each in about the same time however many came before."""
 
     def __init__(self, case: Case) -> None:
-        self.case = copy.deepcopy(case)
+        self.case = case.copied()
         self.destinations = dict.fromkeys(case.destinations)
         self.links = {link.name: link for link in self.case.links}
         self.demand: ByKey[Demand] = ByKey(self.case.demand,
@@ -147,8 +146,8 @@ class Keeper:
         """The case of the scenario."""
         demand, splits = (list(self.demand.rows.values()),
                           None if self.case.splits is None else list(self.splits.rows.values()))
-        case = copy.deepcopy(replace(self.case, demand=demand, splits=splits, limits=self.limits.rows(),
-                                     signals=self.signals.rows()))
+        case = replace(self.case, demand=demand, splits=splits, limits=self.limits.rows(),
+                       signals=self.signals.rows()).copied()
         case.setup.signals = case.setup.signals or bool(case.signals)
         case.setup.limits = case.setup.limits or bool(case.limits)
         if case.destinations != list(self.destinations):
