@@ -18,6 +18,7 @@ BUILT = CLONE / "crates" / "ltm" / "out" / "ltm"
 INSTALLED = Path(__file__).resolve().parents[1] / "ltm"
 # for large tables, where the system gives them to whoever asks: less time
 LARGE_PAGES = {"GLIBC_TUNABLES": "glibc.malloc.hugetlb=1"}
+NO_FILE = 3  # the status of a run to which a file of the folder is missing
 HOW = "./ltm --prove in a clone of the repository makes it, and --program FILE or the variable LTM names one"
 
 
@@ -102,5 +103,17 @@ def _commands(path: Path, changed_ns: int) -> frozenset[str]:
 def refusal(folder: str | os.PathLike[str], words: Sequence[str], status: int, written: bytes) -> str:
     """One line for a run that ended with another status than 0."""
     lines = written.decode("utf-8", "backslashreplace").splitlines()
-    told = lines[-1] if lines else "it wrote nothing"
+    told = lines[-1] if lines else nothing_told(folder, status)
     return f"{folder}: ltm {' '.join(words)} ended with status {status}: {told}"
+
+
+def nothing_told(folder: str | os.PathLike[str], status: int) -> str:
+    """What is to be said of a run that ended with a status and no word."""
+    if status == NO_FILE and not os.path.exists(os.path.join(folder, "splits.csv")):
+        return f"splits.csv is not there: {routes_write(folder)}"
+    return "no answer"
+
+
+def routes_write(folder: str | os.PathLike[str]) -> str:
+    """How a case without `splits.csv` gets one."""
+    return f"./ltm {folder} routes >{folder}/splits.csv writes one, of the fastest ways on empty roads"

@@ -2,6 +2,7 @@
 import csv
 import io
 import json
+import shutil
 import unittest
 from contextlib import redirect_stdout
 from decimal import Decimal
@@ -18,6 +19,7 @@ from ltm_tools.loading.compare import Comparison, change, most_changed
 from ltm_tools.loading.loaded import Loaded
 from ltm_tools.loading.remaining import Remaining
 from ltm_tools.loading.session import Session
+from ltm_tools.loading.sides import of_curves
 from ltm_tools.program import output
 
 TOLD = {"spent_seconds": "spent", "queued_seconds": "queued", "waited_seconds": "waited"}
@@ -34,7 +36,7 @@ def told_by_the_program(folder: Path) -> dict[tuple[str, str], Decimal]:
 
 class Totals(unittest.TestCase):
     def test_a_case_with_another(self) -> None:
-        both = Comparison(Loaded(*read("base")), Loaded(*read("base_signals")))
+        both = Comparison(of_curves(Loaded(*read("base"))), of_curves(Loaded(*read("base_signals"))))
         one, other = ((DATA / name / "delay.out").read_text().split("\n")[0].split()
                       for name in ("base", "base_signals"))
         told = {name: tuple(Decimal(time).scaleb(-6) for time in pair) for name, pair in both.times().items()}
@@ -48,17 +50,17 @@ class Totals(unittest.TestCase):
                 self.assertEqual(Decimal(links[words[1]][1]).scaleb(-6), Decimal(words[5]))
 
     def test_a_link_with_its_turns(self) -> None:
-        both = Comparison(Loaded(*read("spillback")), Loaded(*read("spillback")))
+        both = Comparison(of_curves(Loaded(*read("spillback"))), of_curves(Loaded(*read("spillback"))))
         self.assertEqual(both.links({"x": ("a", "b")}), {"x": both.links()["a"]})
 
     def test_with_itself(self) -> None:
-        both = Comparison(Loaded(*read("grid")), Loaded(*read("grid")))
+        both = Comparison(of_curves(Loaded(*read("grid"))), of_curves(Loaded(*read("grid"))))
         self.assertEqual(most_changed(both.links()), {})
         self.assertTrue(all(one == other for pairs in (both.times(), both.amounts(), both.arrivals(1000))
                             for one, other in pairs.values()))
 
     def test_other_networks(self) -> None:
-        both = Comparison(Loaded(*read("spillback")), Loaded(*read("road")))
+        both = Comparison(of_curves(Loaded(*read("spillback"))), of_curves(Loaded(*read("road"))))
         self.assertEqual(both.links()["b"], (0, None))
         # 16 slots of 1 s, and 5: what comes after is not there
         self.assertEqual(both.arrivals(4000)[8000], (800, None))
@@ -162,6 +164,38 @@ class Command(FolderTest):
                              (0, apart, apart))
             assert_told(self, json.loads(text, parse_float=Decimal), told_by_the_program(EXAMPLES / one),
                         told_by_the_program(Path(other)))
+
+
+    def test_gap(self) -> None:
+        """The gap of docs/MODEL.md, worked by hand: 64.900 vehicle seconds are spent and 65.275 the least, and 4.900
+        vehicles are late. With b as wide as a there is no queue."""
+        case, script = str(EXAMPLES / "spillback"), str(EXAMPLES / "spillback" / "script.jsonl")
+        told = json.loads(commands.run("compare", case, "--script", script, "--gap", "--format", "json", "--program",
+                                       str(BUILT))[1], parse_float=Decimal)
+        found = {row["name"]: row["one"] for row in told["totals"]}
+        self.assertEqual([str(found[name]) for name in ("spent_seconds", "least_seconds", "gap_seconds", "late")],
+                         ["64.900000", "65.275000", "-0.375000", "4.900"])
+        status, out, fault = commands.run("compare", case, case, "--gap", "--curves", "x", "--program", str(BUILT))
+        self.assertEqual((status, out, fault.count("\n")), (1, "", 1))
+        self.assertIn("it goes with no curve file", fault)
+
+    def test_as_by_curve_files(self) -> None:
+        """What a session tells of two cases is, byte for byte, what comes of their curve files: with signals, with who
+        waits and is under way at the end, of networks and horizons that differ, with links of the name of a word."""
+        for one, other in (("signal", "closures"), ("spillback", "evening"), ("own_routes", "incident")):
+            for name in (one, other):
+                folder = self.folder / name
+                shutil.copytree(EXAMPLES / name, folder)
+                if not (folder / "splits.csv").exists():
+                    (folder / "splits.csv").write_bytes(output(folder, "routes", program=BUILT))
+                (self.folder / f"{name}.csv").write_bytes(output(folder, "curves", program=BUILT))
+            files = ["--curves", str(self.folder / f"{one}.csv"), "--other-curves", str(self.folder / f"{other}.csv")]
+            for form in ("text", "json"):
+                words = ["compare", str(self.folder / one), str(self.folder / other), "--every", "0.7", "--format",
+                         form, "--program", str(BUILT)]
+                told = commands.run(*words)
+                self.assertEqual(told, commands.run(*words, *files))
+                self.assertEqual(told[0], 0)
 
 
 def assert_told(test: unittest.TestCase, tables: dict[str, list[dict[str, Decimal]]],

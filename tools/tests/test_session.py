@@ -167,6 +167,16 @@ class Made(FolderTest):
             with self.session(answer) as session, self.subTest(answer):
                 self.assertRaisesRegex(Fault, fault, session.state, 4)
 
+    def test_gap(self) -> None:
+        """The gap of docs/MODEL.md, worked by hand: 64.900 vehicle seconds are spent, 65.275 is the least, and 4.900
+        vehicles are late."""
+        with self.session("version 0 spent 64.900000 least 65.275000 gap -0.375000 late 4.900",
+                          "version 2 spent 65.275001 least 64.900000 gap 0.375001 late 0.000",
+                          "version 2 spent -1.000000 least 64.900000") as session:
+            self.assertEqual(session.gap(), (0, 64_900_000, 65_275_000, -375_000, 4900))
+            self.assertEqual(session.gap(), (2, 65_275_001, 64_900_000, 375_001, 0))
+            self.assertRaisesRegex(Fault, "to gap, which is no answer to it", session.gap)
+
     def test_splits(self) -> None:
         with self.session("accepted version 1") as session:
             session.edit(edits.splits("n1", "n2", [(0, {"a": 1}), (3, {"a": 2, "b": 0})]))
@@ -185,6 +195,9 @@ class Made(FolderTest):
     def test_a_session_that_ends(self) -> None:
         with self.assertRaisesRegex(Fault, "status 6: bad case links row 2 NoCapacity"):
             with self.session("bad case links row 2 NoCapacity", status=6) as session:
+                session.totals()
+        with self.assertRaisesRegex(Fault, f"status 3: splits.csv is not there: ./ltm {self.folder}/case routes"):
+            with Session(self.case(splits=None), program=self.program("sys.exit(3)")) as session:
                 session.totals()
         with self.assertRaisesRegex(Fault, "status 9: no answer"):
             with self.session(status=9) as session:
@@ -213,6 +226,11 @@ class Proved(unittest.TestCase):
             self.assertEqual(session.edit(edits.diagram("b", 20, 36, 18, 150)), 1)
             self.assertEqual(session.settle().version, 1)
             self.assertEqual(session.totals(), (1, 7000, 6000, 1000, 0))
+
+    def test_the_worked_gap(self) -> None:
+        """That of docs/MODEL.md, of a session that shows the loading it was worked for."""
+        with Session(EXAMPLES / "spillback", program=BUILT) as session:
+            self.assertEqual(session.gap(), (0, 64_900_000, 65_275_000, -375_000, 4900))
             with self.assertRaisesRegex(Refused, "refused link UnknownName: links.csv has no link nowhere"):
                 session.link("nowhere")
 

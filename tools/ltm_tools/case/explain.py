@@ -12,6 +12,7 @@ from ..errors import Fault
 from ..files import read_bytes, records, shown
 from ..formats import (HEADERS, MOST_CURVES_BYTES, MOST_EDITOR_LINES, MOST_FILE_BYTES, MOST_LINES, MOST_LINE_BYTES,
                        clock_text, count_text)
+from ..program import routes_write
 from .bad_case import BadCase, NoFile
 from .case import Case
 from .cells import memory_text, produced_bytes
@@ -118,7 +119,7 @@ def file_advice(folder: str, fault: NoFile) -> Told:
     if near:
         return [*told, f"    there is {near[0]}: file names are in small letters"]
     if fault.file == "splits":
-        return [*told, f"    ./ltm {folder} routes >{folder}/splits.csv writes one, of the fastest ways on empty roads"]
+        return [*told, f"    {routes_write(folder)}"]
     if fault.file in ("signals", "limits"):
         return [*told, f"    setup.csv asks for it: write it, or put 0 in the field {fault.file}"]
     return [*told,

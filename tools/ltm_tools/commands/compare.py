@@ -12,8 +12,9 @@ from ..files import write_text
 from ..formats import MINUTE_MS, clock_text
 from ..listing import Cell, TimeUnit, csv_text, json_text, seconds, text_table, time_unit, vehicles
 from ..loading.compare import Comparison, Pairs, change, most_changed, of_versions
-from ..loading.loaded import loaded, told_delay
 from ..loading.remaining import told_apart
+from ..loading.session import Session
+from ..loading.sides import side
 from ..network.source import approaches_of
 from .arguments import (add_each_link_argument, add_format_arguments, add_program_argument, add_start_argument,
                         check_every, minutes, whole)
@@ -51,6 +52,9 @@ def add_arguments(parser: argparse.ArgumentParser) -> None:
                         help="arrivals every so many minutes (5)")
     parser.add_argument("--links", metavar="N", type=whole, default=10,
                         help="in text, how many links that changed most (10)")
+    parser.add_argument("--gap", action="store_true",
+                        help="tell also the least that all could spend at the link times of each loading, the gap, and"
+                        " who is late by any route; of thousands of links this takes minutes")
     parser.add_argument("--table", choices=TABLES, default="links", help="which table in CSV (links)")
     add_each_link_argument(parser)
     add_format_arguments(parser)
@@ -93,9 +97,11 @@ def by_folders(args: argparse.Namespace) -> tuple[Comparison, tuple[str, str]]:
         raise Fault("there is nothing to compare: name the folder of another case, or a --script of which --versions"
                     " tells" if args.other is None
                     else "--versions tells of a --script")
-    asked = ((args.case, args.curves, args.program), (args.other, args.other_curves, args.program))
-    one, other = (loaded(*of) for of in asked)
-    return Comparison(one, other, (told_delay(one, *asked[0]), told_delay(other, *asked[1]))), (args.case, args.other)
+    if args.gap and (args.curves, args.other_curves) != (None, None):
+        raise Fault("--gap is told by the program of loadings that it makes: it goes with no curve file")
+    one = side(args.case, args.curves, args.program, Session, args.gap)
+    other = side(args.other, args.other_curves, args.program, Session, args.gap)
+    return Comparison(one, other), (args.case, args.other)
 
 
 def by_script(args: argparse.Namespace) -> tuple[Comparison, tuple[str, str]]:
@@ -105,8 +111,8 @@ def by_script(args: argparse.Namespace) -> tuple[Comparison, tuple[str, str]]:
                     " no curve file")
     made = [batch.edits for batch in batches_of(args.case, args.script, args.program) if batch.accepted]
     one, other = args.versions or (0, len(made))
-    return of_versions(args.case, made, one, other, args.program), (f"version {one} of {args.case}",
-                                                                    f"version {other} of {len(made)}")
+    return (of_versions(args.case, made, (one, other), args.program, Session, args.gap),
+            (f"version {one} of {args.case}", f"version {other} of {len(made)}"))
 
 
 def exact(name: str, pair: tuple[int | None, int | None], shown: Callable[[int], Cell]) -> list[Cell]:

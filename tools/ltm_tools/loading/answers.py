@@ -118,6 +118,18 @@ class AllDelays(NamedTuple):
     nodes: Mapping[str, Wait]
 
 
+class Gap(NamedTuple):
+    """What those who travel spend and the least that they could at the link times of the loading, in thousandths of a
+    vehicle times ms; the first less the second, which may be below 0; and who could not arrive by the end by any route,
+    in thousandths of a vehicle."""
+
+    version: int
+    spent: int
+    least: int
+    gap: int
+    late: int
+
+
 class Names(NamedTuple):
     """The links of a case in the order of `links.csv`, and its nodes in order of number. No edit changes them."""
 
@@ -155,6 +167,12 @@ def all_delays_of(words: Sequence[str], names: Names) -> AllDelays:
     waits = [Wait(told_time(waited), told_units(most), int(at)) for waited, most, at in in_groups(nodes, 3)]
     spent, queued, waited = (told_time(words[place]) for place in (3, 5, 7))
     return AllDelays(int(words[1]), spent, queued, waited, named(names.links, delays), named(names.nodes, waits))
+
+
+def gap_of(words: Sequence[str]) -> Gap:
+    """The answer to `gap`."""
+    spent, least, gap = (told_time(words[place].removeprefix("-")) for place in (3, 5, 7))
+    return Gap(int(words[1]), spent, least, -gap if words[7].startswith("-") else gap, told_units(words[9]))
 
 
 def parts(words: Sequence[str], place: int, *names: str) -> list[Sequence[str]]:

@@ -8,11 +8,8 @@ from collections.abc import Mapping, Sequence
 from ..case.edits import Edit
 from ..case.keeping import case_of
 from .approaches import Approaches, grouped
-from .counts import Counts, as_list, total
-from .delay import Report, report
-from .loaded import Loaded, loaded, told_delay
 from .remaining import Remaining
-from .times import at
+from .sides import Opens, Program, Side, side
 
 Pairs = dict[str, tuple[int | None, int | None]]
 
@@ -20,20 +17,23 @@ Pairs = dict[str, tuple[int | None, int | None]]
 class Comparison:
     """Two loadings side by side: pairs of numbers by name, None where a case does not have it."""
 
-    def __init__(self, one: Loaded, other: Loaded, reports: tuple[Report, Report] | None = None) -> None:
+    def __init__(self, one: Side, other: Side) -> None:
         self.both = (one, other)
-        self.reports = reports or tuple(report(curves, case) for case, curves in self.both)
-        self.arrived = tuple(arrivals(loading) for loading in self.both)
 
     def times(self) -> Pairs:
-        """Vehicle times of all, in units times ms."""
-        return {name: (getattr(self.reports[0], name), getattr(self.reports[1], name))
-                for name in ("spent", "delay", "queued", "waited")}
+        """Vehicle times of all, in units times ms; the least and the gap where these were asked for."""
+        one, other = (of.report for of in self.both)
+        found = {name: (getattr(one, name), getattr(other, name)) for name in ("spent", "delay", "queued", "waited")}
+        return {**found, **self.of_gaps("least", "gap")}
 
     def amounts(self) -> Pairs:
-        """Totals at the end of the horizon, in units."""
-        ends = [end_totals(loading, list(arrived)) for loading, arrived in zip(self.both, self.arrived)]
-        return {name: (ends[0][name], ends[1][name]) for name in ends[0]}
+        """Totals at the end of the horizon, in units; who is late where the gap was asked for."""
+        return {**paired(*(of.ends for of in self.both)), **self.of_gaps("late")}
+
+    def of_gaps(self, *names: str) -> Pairs:
+        """What the gaps say by these names; nothing where they were not asked for."""
+        one, other = (of.gap for of in self.both)
+        return {name: (getattr(one, name), getattr(other, name)) for name in names} if one and other else {}
 
     def remaining(self) -> tuple[Remaining, Remaining]:
         """Who is not there by the end, in each."""
@@ -48,61 +48,36 @@ class Comparison:
 
     def links(self, approaches: Approaches | None = None) -> Pairs:
         """The delay of each link, in units times ms; that of an approach as one."""
-        return paired(*({name: sum(report.links[one].queued for one in names)
-                         for name, names in grouped(report.links, approaches or {}).items()}
-                        for report in self.reports))
+        return paired(*({name: sum(links[one].queued for one in names)
+                         for name, names in grouped(links, approaches or {}).items()}
+                        for links in (of.report.links for of in self.both)))
 
     def origins(self) -> Pairs:
         """What was waited at each origin, in units times ms."""
-        return paired(*({name: node.waited for name, node in report.origins.items()} for report in self.reports))
+        return paired(*({name: node.waited for name, node in of.report.origins.items()} for of in self.both))
 
     def arrivals(self, every_ms: int) -> dict[int, tuple[int | None, int | None]]:
         """What has arrived by each moment, in units."""
-        ends = [case.setup.horizon_ms for case, _ in self.both]
-        moments = [*range(0, max(ends), every_ms), max(ends)]
-        return {moment: tuple(at(counts, case.setup.step_ms, moment) if moment <= end else None  # type: ignore[misc]
-                              for (case, _), counts, end in zip(self.both, self.arrived, ends)) for moment in moments}
+        end = max(of.case.setup.horizon_ms for of in self.both)
+        one, other = self.both
+        return {moment: (one.arrived_by(moment), other.arrived_by(moment))
+                for moment in (*range(0, end, every_ms), end)}
 
 
-def of_versions(folder: str | os.PathLike[str], made: Sequence[Sequence[Edit]], one: int = 0, other: int | None = None,
-                program: str | os.PathLike[str] | None = None) -> Comparison:
-    """Two versions of a case side by side: after the first so many of these accepted batches, `other` after all where
+def of_versions(folder: str | os.PathLike[str], made: Sequence[Sequence[Edit]], versions: tuple[int, int | None],
+                program: Program, opens: Opens, gap: bool = False) -> Comparison:
+    """Two versions of a case side by side: each after the first so many of these accepted batches, or after all where
     it is None."""
-    both = [of_version(folder, made, version, program) for version in (one, other)]
-    return Comparison(both[0][0], both[1][0], (both[0][1], both[1][1]))
+    one, other = (of_version(folder, made, version, program, opens, gap) for version in versions)
+    return Comparison(one, other)
 
 
-def of_version(folder: str | os.PathLike[str], made: Sequence[Sequence[Edit]], version: int | None,
-               program: str | os.PathLike[str] | None) -> tuple[Loaded, Report]:
-    """The loading of a version by the program, and its delay."""
-    named = None if program is None else os.fspath(program)
+def of_version(folder: str | os.PathLike[str], made: Sequence[Sequence[Edit]], version: int | None, program: Program,
+               opens: Opens, gap: bool) -> Side:
+    """The side of a version."""
     with tempfile.TemporaryDirectory() as kept:
         case_of(folder, made, version).write(kept)
-        loading = loaded(kept, None, named)
-        return loading, told_delay(loading, kept, None, named)
-
-
-def arrivals(loading: Loaded) -> list[int]:
-    """What has arrived at all destinations, by boundary."""
-    case, curves = loading
-    ends = [curves.arrived(name) for name in case.destinations]
-    return as_list(total(ends)) if ends else [0] * curves.boundaries
-
-
-def end_totals(loading: Loaded, arrived: Sequence[int]) -> dict[str, int]:
-    """The totals at the end of the horizon, as `ltm load` tells them, and who is not there then: on a link or
-    waiting."""
-    case, curves = loading
-    generated = sum(row.units for row in case.standing_demand())
-    on_links = sum(last(curves.up(link.name)) - last(curves.down(link.name)) for link in case.links)
-    return {"generated": generated, "arrived": arrived[-1], "on_links": on_links,
-            "waiting": generated - sum(last(curves.departed(node)) for node in case.nodes),
-            "not_there": generated - arrived[-1]}
-
-
-def last(counts: Counts) -> int:
-    """The count at the end of the horizon."""
-    return int(counts[-1])
+        return side(kept, None, program, opens, gap)
 
 
 def paired(one: Mapping[str, int], other: Mapping[str, int]) -> Pairs:

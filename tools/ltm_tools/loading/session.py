@@ -20,10 +20,9 @@ from ..case.refusals import why_refused
 from ..errors import Fault
 from ..files import shown
 from ..formats import MOST_EDITS, MOST_LINE_BYTES, MOST_WORKERS, told_time, told_units, whole_of
-from ..program import start
-from .answers import (AllDelays, Delays, LinkCurve, LinkQueue, LinkTime, Names, OriginCurve, OriginQueue, Passed,
-                      Settled, State, Totals,
-                      all_delays_of, link_curve_of, origin_curve_of, state_of)
+from ..program import nothing_told, start
+from .answers import (AllDelays, Delays, Gap, LinkCurve, LinkQueue, LinkTime, Names, OriginCurve, OriginQueue, Passed,
+                      Settled, State, Totals, all_delays_of, gap_of, link_curve_of, origin_curve_of, state_of)
 
 if TYPE_CHECKING:
     from .compare import Comparison
@@ -120,8 +119,9 @@ class Session:
         words = answer.split(maxsplit=4)
         if not told.endswith(b"\n") or words[:2] in ([], ["bad", "case"], ["too", "long"], ["too", "many"]):
             self._let_go()
-            raise Ended(f"{self.folder}: ltm {' '.join(self.words)} ended with status {self.process.returncode}:"
-                        f" {answer or 'no answer'}")
+            status = self.process.returncode
+            raise Ended(f"{self.folder}: ltm {' '.join(self.words)} ended with status {status}:"
+                        f" {answer or nothing_told(self.folder, status)}")
         if words[0] == "refused":
             raise _refused(answer, answer.split(), self._reason(command, answer))
         return answer
@@ -162,7 +162,7 @@ class Session:
         """Two versions side by side, the last where `other` is not named: see the module `compare`."""
         from .compare import of_versions
 
-        return of_versions(self.folder, self.made, one, other, self.program)
+        return of_versions(self.folder, self.made, (one, other), self.program, Session)
 
     def settle(self) -> Settled:
         """Works out anew what the edits change, and shows it."""
@@ -218,6 +218,10 @@ class Session:
         """The vehicle time of the loading that is shown and the delay in it, of all and of each link and node, as `ltm
         delay` tells it."""
         return all_delays_of(self.ask(do="delays"), self.names())
+
+    def gap(self) -> Gap:
+        """What all spend in the loading that is shown against the least at its link times, as `ltm gap` tells it."""
+        return self._told(gap_of, do="gap")
 
     def names(self) -> Names:
         """The links and nodes of the case, in the order in which answers tell of them."""
