@@ -204,7 +204,9 @@ def read_table(path: str | os.PathLike[str], wanted: Sequence[str] = ()) -> list
     names = [name.strip() for name in rows[0][1]]
     missing = [name for name in wanted if name not in names]
     if missing:
-        raise Fault(f"{path}: no field {', '.join(missing)} in the header; it has {', '.join(names)}")
+        cut = len(names) > 1 or not set(names[0]) & set(";\t|")
+        advice = "" if cut else ": save the file with commas between fields"
+        raise Fault(f"{path}: no field {', '.join(missing)} in the header; it has {', '.join(names)}{advice}")
     for line, row in rows[1:]:
         check_fields(row, names, f"{path} line {line}")
     return [Row(f"{path} row {number}", dict(zip(names, row))) for number, (_, row) in enumerate(rows[1:], 2)]

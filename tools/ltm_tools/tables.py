@@ -21,6 +21,7 @@ from .errors import Fault
 from .files import Row, check_fields, shown
 
 SEPARATORS = ",;\t|"
+TELLS_SEPARATOR = re.compile("sep=.", re.IGNORECASE)
 END_MARKS = "\0\x1a"  # with which some systems end or fill a file
 DECIMAL_COMMA = re.compile(r"[+-]?[0-9]+,[0-9]+", re.ASCII)
 HEAD_BYTES = 200  # by which an encoding without a mark is known
@@ -184,10 +185,10 @@ class Stream:
 
 
 def start_of(lines: Iterator[str]) -> tuple[int, str]:
-    """How many lines stand before the first that is neither blank nor a remark, and that line; an empty text where
-    there is none."""
+    """How many lines stand before the first that is neither blank nor a remark, nor tells a spreadsheet the separator,
+    and that line; an empty text where there is none."""
     for before, line in enumerate(lines):
-        if line.strip() and not line.lstrip().startswith("# "):
+        if line.strip() and not line.lstrip().startswith("# ") and not TELLS_SEPARATOR.fullmatch(line.strip()):
             return before, line
     return 0, ""
 

@@ -43,6 +43,11 @@ def star(count: int) -> dict[str, str]:
 CASES: dict[str, tuple[dict[str, str], int, str, list[str]]] = {
     "Header": ({"links": "link;from;to\n"}, 6, "bad case links row 1 Header",
                ["links.csv, line 1", "semicolons", "link,from,to,length_m,free_kmh,wave_kmh,jam_per_km"]),
+    "Header with tabs": ({"links": "link\tfrom\tto\n"}, 6, "bad case links row 1 Header", ["tabs", "with commas"]),
+    "Header in UTF-16": ({"demand": "\0".join(DEMAND)}, 6, "bad case demand row 1 Header",
+                         ["UTF-16", "save it in UTF-8"]),
+    "Header below a separator": ({"splits": "sep=,\n" + ROAD["splits"]}, 6, "bad case splits row 1 Header",
+                                 ["tells a separator", "take it out"]),
     "Header of setup": ({"setup": "step,slots\n"}, 6, "bad case setup row 1 Header",
                         ["exactly step_ms,slots,origin_capacity, and behind it each of signals, limits, cells, rows,"
                          " links, destinations, moves or not, in this order", '"step,slots"']),

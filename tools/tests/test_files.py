@@ -50,6 +50,7 @@ class Tables(FolderTest):
             ("id,name\n".encode("utf-16"), "UTF-16"),
             (b"", "the file is empty"),
             (b"name\n", "no field id in the header"),
+            (b"id;name\n1;a\n", "it has id;name: save the file with commas"),
         ):
             path.write_bytes(data)
             with self.assertRaisesRegex(Fault, fault):

@@ -51,6 +51,10 @@ class Rows(FolderTest):
     def test_a_field_in_quotes(self) -> None:
         self.assertEqual(self.table('a,b\n11,"1,650"\n').rows[0].text("b"), "1,650")
 
+    def test_a_line_that_tells_a_spreadsheet_the_separator(self) -> None:
+        (row,) = self.table("sep=;\n\na;b\n11;1,650\n").rows
+        self.assertEqual((row.place, row.text("b")), (f"{self.path} line 4", "1.650"))
+
     def test_our_own_tables(self) -> None:
         path = self.folder / "nodes.csv"
         for text, told in (("name,x,y\nn1,1,2,3\n", '4 fields, and the header has 3: "3" is surplus'),

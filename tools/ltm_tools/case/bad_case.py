@@ -3,7 +3,7 @@
 There is one function for each cause in docs/FORMATS.md, with the numbers that it needs. It makes a BadCase; who finds
 the fault raises it.
 """
-from collections.abc import Iterable
+from collections.abc import Iterable, Iterator
 
 from ..errors import Fault
 from ..files import shown
@@ -64,14 +64,22 @@ def header(file: str, found: list[str] | None) -> BadCase:
     if found is None:
         return BadCase(file, 1, "Header", f"the file has no record, and its first is to be {wanted}",
                        "write that header as the first line")
-    if len(found) == 1 and ";" in found[0]:
-        return BadCase(file, 1, "Header", f"the fields stand between semicolons, and the header is to be {wanted}",
-                       "save the file with commas")
+    for is_so, told, advice in odd_headers(found):
+        if is_so:
+            return BadCase(file, 1, "Header", f"{told}, and the header is to be {wanted}", advice)
     if tuple(field.strip().lower() for field in found) in headers_of(file):
         return BadCase(file, 1, "Header", f"the header is to be exactly {wanted}",
                        "take out blanks, and write small letters")
     return BadCase(file, 1, "Header", f"the header is to be exactly {wanted}, and it is {shown(','.join(found))}",
                    "these fields, in this order")
+
+
+def odd_headers(found: list[str]) -> Iterator[tuple[bool, str, str]]:
+    """Of each way in which spreadsheets write another header: whether it is so, what is told of it, and what to do."""
+    yield "\0" in found[0], "the file is in UTF-16", "save it in UTF-8: in a spreadsheet as CSV UTF-8"
+    yield found[0].startswith("sep="), "the first line tells a separator", "take it out"
+    for sign, name in ((";", "semicolons"), ("\t", "tabs")):
+        yield len(found) == 1 and sign in found[0], f"the fields stand between {name}", "save the file with commas"
 
 
 def no_setup_record() -> BadCase:
