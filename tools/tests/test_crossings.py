@@ -12,7 +12,6 @@ from ltm_tools.network.crossings.sizes import links_told
 from ltm_tools.network.cycles import Green
 from ltm_tools.network.fit import Fit
 from ltm_tools.network.network import Network, Node, road_of
-from ltm_tools.network.route_splits import Route
 
 PLACES = {"n": (0.0, 300.0), "e": (300.0, 0.0), "s": (0.0, -300.0), "w": (-300.0, 0.0), "c": (0.0, 0.0)}
 HELD = Held((Green(60_000, 0, 30_000),))
@@ -68,15 +67,15 @@ class Four(unittest.TestCase):
         network = crossing()
         expanded = made(network, turns(without=[("nc", "ce")]))
         self.assertEqual([name for name in network.roads if name.startswith("nc_")], ["nc__cs", "nc__cw"])
-        self.assertIsNone(expanded.route(Route(("nc", "ce"), 0, 1000)))
-        self.assertEqual(expanded.route(Route(("nc", "cw"), 7, 1000)), Route(("nc", "nc__cw", "cw"), 7, 1000))
+        self.assertIsNone(expanded.route(("nc", "ce")))
+        self.assertEqual(expanded.route(("nc", "cw")), ("nc", "nc__cw", "cw"))
 
     def test_an_approach_with_one_exit_leads_to_it_as_it_is(self) -> None:
         network = crossing()
         expanded = made(network, turns(without=[("nc", "ce"), ("nc", "cw")]))
         self.assertEqual((network.roads["nc"].head, network.roads["nc"].length), ("cs_E", 300))
         self.assertEqual(expanded.links["nc", "cs"], "nc")
-        self.assertEqual(expanded.route(Route(("nc", "cs"), 0, 1)), Route(("nc", "cs"), 0, 1))
+        self.assertEqual(expanded.route(("nc", "cs")), ("nc", "cs"))
 
     def test_trips_that_end_take_a_link_that_no_signal_holds(self) -> None:
         network = crossing()
@@ -84,7 +83,7 @@ class Four(unittest.TestCase):
         stop = network.roads["nc_stop"]
         self.assertEqual((stop.tail, stop.head, stop.length, stop.capacity), ("nc_A", "c", 98, 3600))
         self.assertEqual(network.outs["c"], [])
-        self.assertEqual(expanded.route(Route(("nc",), 0, 1)), Route(("nc", "nc_stop"), 0, 1))
+        self.assertEqual(expanded.route(("nc",)), ("nc", "nc_stop"))
 
     def test_trips_that_begin_at_the_node_may_take_each_exit_and_none_leads_through(self) -> None:
         network = crossing()
@@ -93,7 +92,7 @@ class Four(unittest.TestCase):
         self.assertEqual((network.ins["c_start"], len(network.outs["c_start"])), ([], 4))
         # 51 m: what the step asks for
         self.assertEqual((network.roads["cn_start"].head, network.roads["cn_start"].length), ("cn_E", 51))
-        self.assertEqual(expanded.route(Route(("cn",), 0, 1)), Route(("cn_start", "cn"), 0, 1))
+        self.assertEqual(expanded.route(("cn",)), ("cn_start", "cn"))
 
     def test_where_it_lies(self) -> None:
         network = crossing()

@@ -13,6 +13,7 @@ from support import FolderTest, TOOLS
 
 from ltm_tools.case import Case, cells
 from ltm_tools.network.crossings.lanes import filled
+from ltm_tools.sumo.routes import single
 
 
 def edge(name: str, tail: str, head: str, lanes: int = 1, metres: str = "200.00", speed: str = "10.00", more: str = "",
@@ -257,6 +258,13 @@ class Vehicles(SumoTest):
                                                                   ' to="on"/>'))
         self.assertIn("no number, period, vehsPerHour or probability",
                       self.refused_new('<flow id="f" begin="0" end="9" from="in" to="on"/>'))
+
+    def test_vehicles_of_a_number_set_out_at_even_distances(self) -> None:
+        # every third of a millisecond, and every half about 0, where parts of a millisecond are cut off
+        for begin, end, count, told in (("7", "7.002", 6, [(7000, 3000), (7001, 3000)]),
+                                        ("-0.0015", "0.0015", 6, [(-1, 2000), (0, 3000), (1, 1000)]),
+                                        ("0", "10", 2, [(0, 1000), (5000, 1000)]), ("3", "3", 4, [(3000, 4000)])):
+            self.assertEqual(list(single(Fraction(begin), Fraction(end), count, "")), told)
 
     def refused_new(self, routes: str) -> str:
         """What is said of vehicles that are refused."""

@@ -8,7 +8,7 @@ from support import FolderTest
 
 from ltm_tools.case import Case, Demand, Link, Setup, Split
 from ltm_tools.network.passages import Passages, Roads, strong_parts
-from ltm_tools.network.route_splits import Route, circles, from_routes, whole_weights
+from ltm_tools.network.route_splits import Route, by_links, circles, from_routes, whole_weights
 from ltm_tools.network.turns import Turn, from_turns
 
 STEP = 1000
@@ -39,6 +39,17 @@ class Parts(unittest.TestCase):
         self.assertEqual(strong_parts("abcd", {"a": "b", "b": "c", "c": "d"}), [])
         self.assertEqual(strong_parts("abcde", {"a": "b", "b": "ac", "c": "d", "d": "e", "e": "c"}),
                          [{"c", "d", "e"}, {"a", "b"}])
+
+
+class Together(unittest.TestCase):
+    def test_who_drives_the_same_counts_in_the_slice_in_which_each_comes(self) -> None:
+        # half a minute later: 29.999 s is the last moment of the first minute, 30 s the first of the second
+        routes = [Route(("in",), depart, units) for depart, units in ((30_000, 2), (29_999, 1), (90_000, 4),
+                                                                      (500_000, 8))]
+        for last, counted in ((None, {0: 101, 1: 2, 2: 4, 8: 8}), (1, {0: 101, 1: 14})):
+            counts = {0: 100}
+            by_links(routes)["in",].add_to(counts, 30_000, 60_000, last)
+            self.assertEqual(counts, counted)
 
 
 class Circles(unittest.TestCase):

@@ -5,10 +5,12 @@ from __future__ import annotations
 from collections.abc import Iterable, Sequence
 from dataclasses import dataclass
 from fractions import Fraction
+from typing import NamedTuple
 
 from ..case import Demand
 from ..errors import Fault
 from ..formats import MOST_DEMAND_ROWS, MOST_UNITS
+
 
 @dataclass(frozen=True, slots=True)
 class Part:
@@ -19,8 +21,7 @@ class Part:
     share: Fraction
 
 
-@dataclass(frozen=True, slots=True)
-class Trip:
+class Trip(NamedTuple):
     """Vehicles (thousandths) that leave a node for another at a time in ms after slot 0."""
 
     origin: str

@@ -1,25 +1,77 @@
 """Splits from counted routes by slices of time, and no destination has a circle."""
 from __future__ import annotations
 
-from collections.abc import Iterable, Sequence
+from bisect import bisect_left
+from collections.abc import Callable, Iterable, Sequence
 from dataclasses import dataclass, field
+from itertools import accumulate
 from math import gcd
+from typing import NamedTuple
 
 from ..case import Demand, Link, Split
 from ..formats import WHOLE_BELOW
 from .passages import Passages, Roads, strong_parts
 
 MOST_WEIGHT = WHOLE_BELOW - 1
+Links = tuple[str, ...]
 
 
-@dataclass(frozen=True, slots=True)
-class Route:
+class Route(NamedTuple):
     """Vehicles that set out together: the links they drive, when they begin (ms after slot 0), and how many
     (thousandths)."""
 
-    links: tuple[str, ...]
+    links: Links
     depart_ms: int
     units: int
+
+
+class Departures:
+    """When how many vehicles (thousandths) set out on one route."""
+
+    def __init__(self, routes: Sequence[Route]) -> None:
+        ordered = sorted((route.depart_ms, route.units) for route in routes)
+        self.times = [time for time, _ in ordered]
+        self.sums = [0, *accumulate(units for _, units in ordered)]
+
+    def add_to(self, counts: dict[int, int], later_ms: int, width_ms: int, last: int | None = None) -> None:
+        """Counts them by slices of a width, so much later; what comes after a last slice counts in that."""
+        at, end = 0, len(self.times)
+        while at < end:
+            part = (self.times[at] + later_ms) // width_ms
+            upto = end if last is not None and part >= last else bisect_left(
+                self.times, (part + 1) * width_ms - later_ms, at)
+            part = part if last is None else min(part, last)
+            counts[part] = counts.get(part, 0) + self.sums[upto] - self.sums[at]
+            at = upto
+
+
+def by_links(routes: Iterable[Route]) -> dict[Links, Departures]:
+    """Of each row of links, in the order in which they are met, who sets out on it."""
+    found: dict[Links, list[Route]] = {}
+    for route in routes:
+        found.setdefault(route.links, []).append(route)
+    return {links: Departures(together) for links, together in found.items()}
+
+
+def units_by_links(routes: Iterable[Route]) -> dict[Links, int]:
+    """Of each row of links, in the order in which they are met, the thousandths of vehicles on it."""
+    found: dict[Links, int] = {}
+    for route in routes:
+        found[route.links] = found.get(route.links, 0) + route.units
+    return found
+
+
+def led_over(routes: Iterable[Route], lead: Callable[[Links], Links | None]) -> list[Route]:
+    """Routes over the links to which theirs lead, each row of links looked at once; those without such are left out."""
+    found: dict[Links, Links | None] = {}
+    made = []
+    for route in routes:
+        if route.links not in found:
+            found[route.links] = lead(route.links)
+        links = found[route.links]
+        if links is not None:
+            made.append(route if links == route.links else Route(links, route.depart_ms, route.units))
+    return made
 
 
 @dataclass
@@ -80,17 +132,16 @@ def count(roads: Roads, routes: Iterable[Route], step_ms: int, slots: int,
           slice_slots: int) -> dict[str, dict[str, dict[int, int]]]:
     """Of each destination and link the thousandths of vehicles that go on by the link, by slice."""
     counted: dict[str, dict[str, dict[int, int]]] = {}
-    for route in routes:
-        if not route.links:
+    last = (slots - 1) // slice_slots
+    for links, departures in by_links(routes).items():
+        if not links:
             continue
-        destination = roads.links[route.links[-1]].head
+        destination = roads.links[links[-1]].head
         of_links = counted.setdefault(destination, {})
-        time = route.depart_ms
-        for name in route.links:
-            slot = min(time // step_ms, slots - 1)
-            by_slice = of_links.setdefault(name, {})
-            by_slice[slot // slice_slots] = by_slice.get(slot // slice_slots, 0) + route.units
-            time += roads.links[name].free_ms
+        later = 0
+        for name in links:
+            departures.add_to(of_links.setdefault(name, {}), later, step_ms * slice_slots, last)
+            later += roads.links[name].free_ms
             if roads.links[name].head == destination:
                 break
     return counted

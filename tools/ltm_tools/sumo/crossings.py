@@ -12,7 +12,7 @@ from ..network.crossings.movements import Movements, Pair
 from ..network.crossings.told import crossings_told, whole_told
 from ..network.crossings.turn import turns_of
 from ..network.crossings.volumes import turns_counted
-from ..network.route_splits import Route
+from ..network.route_splits import Route, led_over, units_by_links
 from ..network.steps import longest_step
 from .inputs import Inputs, counted_routes
 from .movements import movements
@@ -47,7 +47,7 @@ def choose(inputs: Inputs, options: SumoOptions) -> tuple[Movements, Chosen]:
 
 def ends_of(inputs: Inputs) -> set[str]:
     """The nodes where trips end."""
-    return {inputs.net.network.roads[route.links[-1]].head for route in inputs.routes}
+    return {inputs.net.network.roads[name].head for name in {route.links[-1] for route in inputs.routes}}
 
 
 def turn(inputs: Inputs, found: Movements, picked: Chosen, options: SumoOptions) -> Turned:
@@ -61,9 +61,10 @@ def turn(inputs: Inputs, found: Movements, picked: Chosen, options: SumoOptions)
                 begins=begins)
     made = expand(raw, found, picked, form)
     vehicles = by_node(inputs.routes, made)
-    inputs.routes, left_out = over_turns(inputs.routes, made)
-    inputs.notes += crossings_told(made, left_out)
-    return Turned(found, made, capacities, lanes, None if options.volumes is None else over_turns(counted, made)[0],
+    driven = led_over(inputs.routes, made.route)
+    inputs.notes += crossings_told(made, units_of(inputs.routes) - units_of(driven))
+    inputs.routes = driven
+    return Turned(found, made, capacities, lanes, None if options.volumes is None else led_over(counted, made.route),
                   vehicles)
 
 
@@ -83,18 +84,16 @@ def step_of(inputs: Inputs, options: SumoOptions) -> int:
     return options.fit or options.step or min(longest_step(inputs.net.network), MINUTE_MS)
 
 
-def over_turns(routes: list[Route], made: Expanded) -> tuple[list[Route], int]:
-    """Routes over the roads there are now, and the thousandths of vehicles of those that take a forbidden turn."""
-    found = [(route, made.route(route)) for route in routes]
-    return ([route for _, route in found if route is not None],
-            sum(before.units for before, route in found if route is None))
+def units_of(routes: list[Route]) -> int:
+    """The thousandths of vehicles of routes."""
+    return sum(route.units for route in routes)
 
 
 def by_node(routes: list[Route], made: Expanded) -> dict[str, int]:
     """Of each node of the source the thousandths of vehicles whose routes come to it."""
     counts: dict[str, int] = {}
-    for route in routes:
-        for name in route.links:
+    for links, units in units_by_links(routes).items():
+        for name in links:
             node = made.ends[name][1]
-            counts[node] = counts.get(node, 0) + route.units
+            counts[node] = counts.get(node, 0) + units
     return counts

@@ -15,7 +15,7 @@ from ..network.arms import free_name
 from ..network.fitting import stretched
 from ..network.lines import cut_at
 from ..network.network import Network, Node, Road, diagram
-from ..network.route_splits import Route
+from ..network.route_splits import Links, Route
 
 
 @dataclass
@@ -67,11 +67,11 @@ def cut_one(network: Network, name: str, end: str, step: int, made: Cut) -> None
         network.add(replace(rest, name=names[name], tail=middle, head=goal, parts=(names[name],), shape=behind))
 
 
-def over_parts(route: Route, cut: Cut) -> Route:
+def over_parts(edges: Links, cut: Cut) -> Links:
     """A route over edges as one over their parts."""
     links: list[str] = []
-    for place, name in enumerate(route.links):
+    for place, name in enumerate(edges):
         links.append(name)
         if name in cut.exits:
-            links.append((cut.stops if place == len(route.links) - 1 else cut.exits)[name])
-    return Route(tuple(links), route.depart_ms, route.units)
+            links.append((cut.stops if place == len(edges) - 1 else cut.exits)[name])
+    return tuple(links)

@@ -15,6 +15,7 @@ from ..network.imported import Imported
 from ..network.importing import NotCarried, carried, check_ends
 from ..network.network import Network
 from ..network.placing import places_of
+from ..network.route_splits import units_by_links
 from ..network.steps import steps_table
 from .crossings import Turned, choose, turn
 from .ends import Cut
@@ -40,10 +41,11 @@ class Asked:
         """The network as it was read."""
         return self.inputs.net.network
 
-    def ends(self) -> list[tuple[str, str]]:
-        """The nodes where each route begins and ends."""
-        return [(self.raw.roads[route.links[0]].tail, self.raw.roads[route.links[-1]].head)
-                for route in self.inputs.routes]
+    def ends(self) -> dict[tuple[str, str], None]:
+        """The pairs of nodes where routes begin and end, in the order in which they are met."""
+        roads = self.raw.roads
+        edges = dict.fromkeys((route.links[0], route.links[-1]) for route in self.inputs.routes)
+        return dict.fromkeys((roads[first].tail, roads[last].head) for first, last in edges)
 
 
 def import_sumo(net: StrPath, files: Iterable[StrPath] = (), options: SumoOptions = SumoOptions()) -> Imported:
@@ -51,11 +53,8 @@ def import_sumo(net: StrPath, files: Iterable[StrPath] = (), options: SumoOption
     have."""
     asked = read_all(net, files, options, True)
     inputs = asked.inputs
-    check_ends(dict.fromkeys(asked.ends()))
-    counts: dict[tuple[str, ...], int] = {}
-    for route in inputs.routes:
-        counts[route.links] = counts.get(route.links, 0) + route.units
-    routes = list(counts.items())
+    check_ends(asked.ends())
+    routes = list(units_by_links(inputs.routes).items())
     try:
         made = carried(asked.raw, options, routes)
     except NotCarried as fault:

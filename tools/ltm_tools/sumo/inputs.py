@@ -5,6 +5,7 @@ import os
 from collections.abc import Iterable, Mapping, Sequence
 from dataclasses import dataclass, field, replace
 from fractions import Fraction
+from functools import partial
 from pathlib import Path
 
 from ..errors import Fault
@@ -13,7 +14,7 @@ from ..network.demand_files import exists, quarter_before
 from ..network.ends import joined, most_used
 from ..network.importing import check_ends
 from ..network.network import Network
-from ..network.route_splits import Route
+from ..network.route_splits import Links, Route, led_over
 from ..network.steps import longest_step
 from .ends import Cut, cut_ends, over_parts
 from .net import Connection, Net, elements, read_net, read_programs
@@ -43,7 +44,7 @@ def end_before_signals(inputs: Inputs, held: dict[str, list[Connection]], option
     step = options.fit or options.step or min(longest_step(raw), MINUTE_MS)
     cut = cut_ends(raw, inputs.routes, set(held), step)
     inputs.turns_before = inputs.routes
-    inputs.routes = [over_parts(route, cut) for route in inputs.routes]
+    inputs.routes = led_over(inputs.routes, partial(over_parts, cut=cut))
     if cut.exits:
         inputs.notes.append(f"{len(cut.exits)} edges are cut a step before a signal, so that trips that end there need"
                             f" not wait for it (--wait-at-ends leaves them whole)")
@@ -116,19 +117,29 @@ def find_routes(inputs: Inputs, options: SumoOptions) -> None:
     trips = [one for one in found.vehicles if not one.whole and all(name in net.roads for name in one.edges)]
     legs = ways.legs(leg for one in trips for leg in zip(one.edges, one.edges[1:]))
     routed = 0
-    for one in found.vehicles:
-        edges = one.edges if one.whole else by_legs(one.edges, legs)
-        if not edges or not ways.is_route(edges):
-            missing = [name for name in one.edges if name not in net.roads]
-            found.leave_out("over edges that are not in the net, or not for cars" if missing else "without a route that"
-                            " is connected", one.units)
-        elif net.roads[edges[0]].tail == net.roads[edges[-1]].head:
-            found.leave_out("that end where they begin", one.units)
+    known: dict[tuple[Links, bool], tuple[Links, str]] = {}
+    for given, whole, depart, units in found.vehicles:
+        if (given, whole) not in known:
+            known[given, whole] = driven_or_why(given, given if whole else by_legs(given, legs), ways)
+        edges, why = known[given, whole]
+        if why:
+            found.leave_out(why, units)
         else:
-            routed += 0 if one.whole else one.units
-            inputs.routes.append(Route(edges, one.depart_ms - inputs.begin_ms, one.units))
+            routed += 0 if whole else units
+            inputs.routes.append(Route(edges, depart - inputs.begin_ms, units))
     if routed:
         inputs.notes.append(f"{short_vehicles(routed)} vehicles have no route and take the least one by free-flow time")
+
+
+def driven_or_why(given: Links, edges: Links, ways: Ways) -> tuple[Links, str]:
+    """The edges of a route, of those that were given; or why they are none."""
+    if not edges or not ways.is_route(edges):
+        missing = any(name not in ways.roads for name in given)
+        return (), ("over edges that are not in the net, or not for cars" if missing
+                    else "without a route that is connected")
+    if ways.roads[edges[0]].tail == ways.roads[edges[-1]].head:
+        return (), "that end where they begin"
+    return edges, ""
 
 
 def counted_routes(inputs: Inputs, options: SumoOptions) -> list[Route]:
@@ -157,12 +168,11 @@ def sure_ends(vehicles: Iterable[Vehicles], ways: Ways, net: Network) -> dict[tu
     of the net in which ways lead from each edge to each other."""
     parts = ways.circling()
     pairs: dict[tuple[str, str], None] = {}
-    for one in vehicles:
-        part = parts.get(one.edges[0]) if one.edges else None
-        if ways.is_route(one.edges) if one.whole else part is not None and all(parts.get(name) == part
-                                                                               for name in one.edges):
-            if one.edges and net.roads[one.edges[0]].tail != net.roads[one.edges[-1]].head:
-                pairs[net.roads[one.edges[0]].tail, net.roads[one.edges[-1]].head] = None
+    for edges, whole in dict.fromkeys((one.edges, one.whole) for one in vehicles):
+        part = parts.get(edges[0]) if edges else None
+        if ways.is_route(edges) if whole else part is not None and all(parts.get(name) == part for name in edges):
+            if edges and net.roads[edges[0]].tail != net.roads[edges[-1]].head:
+                pairs[net.roads[edges[0]].tail, net.roads[edges[-1]].head] = None
     return pairs
 
 

@@ -7,12 +7,12 @@ vehicles do.
 from __future__ import annotations
 
 import xml.etree.ElementTree as ElementTree
-from collections.abc import Iterator
+from collections.abc import Iterable, Iterator, Sequence
 from dataclasses import dataclass, field
 from fractions import Fraction
-from itertools import groupby
 from math import lcm
 from pathlib import Path
+from typing import NamedTuple
 
 from ..errors import Fault
 from ..files import shown
@@ -29,8 +29,7 @@ RATE_PART_S = 60
 """A flow with a rate is cut into parts of so many seconds."""
 
 
-@dataclass(frozen=True, slots=True)
-class Vehicles:
+class Vehicles(NamedTuple):
     """Vehicles (thousandths) that set out at a time in ms over edges; where these are not known, by way of these
     alone."""
 
@@ -62,12 +61,12 @@ class Found:
         """The mean metres of a standing vehicle, to the millimetre."""
         return Fraction(round(self.metres / self.units * 1000), 1000) if self.units else SPACING
 
-    def add(self, vehicles: Vehicles, what: str) -> None:
-        """Adds vehicles that set out together; a Fault where that is too often."""
-        if len(self.vehicles) >= MOST_DEPARTURES:
+    def add(self, vehicles: Iterable[Vehicles], what: str) -> None:
+        """Adds those that set out; a Fault where that is too often."""
+        self.vehicles.extend(vehicles)
+        if len(self.vehicles) > MOST_DEPARTURES:
             raise Fault(f"{what}: vehicles set out more than {count_text(MOST_DEPARTURES)} times, which is the most;"
                         f" take a part of them")
-        self.vehicles.append(vehicles)
 
     def leave_out(self, why: str, units: int) -> None:
         """Counts vehicles that are left out."""
@@ -171,13 +170,21 @@ def read_one(found: Found, element: ElementTree.Element, place: str) -> None:
         return found.leave_out("between zones or junctions (duarouter gives them edges)", units)
     found.units += units
     found.metres += units * found.spacings.get(element.get("type", ""), SPACING)
-    for depart, amount in departures:
-        given = 0
-        for number, (edges, share) in enumerate(ways):
-            part = amount - given if number == len(ways) - 1 else int(amount * share)
-            given += part
-            if part:
-                found.add(Vehicles(edges, whole, depart, part), what)
+    if len(ways) == 1:
+        found.add((Vehicles(ways[0][0], whole, depart, amount) for depart, amount in departures), what)
+    else:
+        found.add((Vehicles(edges, whole, depart, part) for depart, amount in departures
+                   for edges, part in parts_of(amount, ways)), what)
+
+
+def parts_of(amount: int, ways: Sequence[tuple[tuple[str, ...], Fraction]]) -> Iterator[tuple[tuple[str, ...], int]]:
+    """What of an amount takes each of some ways with shares, where that is any; the last gets what is left."""
+    given = 0
+    for number, (edges, share) in enumerate(ways):
+        part = amount - given if number == len(ways) - 1 else int(amount * share)
+        given += part
+        if part:
+            yield edges, part
 
 
 def ways_of(found: Found, element: ElementTree.Element,
@@ -260,10 +267,15 @@ def single(begin: Fraction, end: Fraction, count: int, what: str) -> Iterator[tu
         raise Fault(f"{what}: {count_text(count)} vehicles, and at most {count_text(MOST_DEPARTURES)} may set out in"
                     f" all")
     parts = lcm(begin.denominator, end.denominator) * count  # of a second, in which all moments are whole
-    first, span = int(begin * parts), int((end - begin) * parts) // count if count else 0
-    moments = ((first + span * number) * 1000 for number in range(count))
-    for depart, together in groupby(moment // parts if moment >= 0 else -(-moment // parts) for moment in moments):
-        yield depart, UNITS * sum(1 for _ in together)
+    first, span = 1000 * int(begin * parts), 1000 * (int((end - begin) * parts) // count if count else 0)
+    number = 0
+    while number < count:
+        moment = first + span * number
+        depart = moment // parts if moment >= 0 else -(-moment // parts)
+        after = (depart + 1) * parts if depart >= 0 else depart * parts + 1  # the next millisecond begins
+        upto = min(count, -((first - after) // span)) if span else count
+        yield depart, UNITS * (upto - number)
+        number = upto
 
 
 def by_rate(begin: Fraction, end: Fraction, rate: Fraction) -> Iterator[tuple[int, int]]:

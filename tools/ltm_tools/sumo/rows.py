@@ -1,6 +1,8 @@
 """The rows of a case that is made of a net: its demand, splits and signals, by the routes of vehicles."""
 from __future__ import annotations
 
+from functools import partial
+
 from ..case import Case, Demand, Limit, Setup, Split
 from ..case.cells import ask_for_cells
 from ..errors import Fault
@@ -14,7 +16,7 @@ from ..network.crossings.volumes import volumes_of
 from ..network.cycles import Plan, exit_limits
 from ..network.importing import Carried, slots_of
 from ..network.profiles import Trip, by_trips
-from ..network.route_splits import Cuts, Route, circles, from_routes
+from ..network.route_splits import Cuts, Route, circles, from_routes, led_over, units_by_links
 from .crossings import Turned
 from .ends import Cut
 from .inputs import Inputs, horizon_ms
@@ -31,14 +33,7 @@ LONGEST_FREE = {"demand": 15, "splits": 30}
 
 def over_links(made: Carried, routes: list[Route]) -> list[Route]:
     """Routes over edges of the net as routes over links of the case."""
-    roads = made.roads
-    cache: dict[tuple[str, ...], tuple[str, ...]] = {}
-    driven = []
-    for route in routes:
-        if route.links not in cache:
-            cache[route.links] = made.source.route(route.links, roads)
-        driven.append(Route(cache[route.links], route.depart_ms, route.units))
-    return driven
+    return led_over(routes, partial(made.source.route, roads=made.roads))
 
 
 def case_of(made: Carried, inputs: Inputs, routes: list[Route], held: dict[str, list[Connection]], cut: Cut,
@@ -107,11 +102,11 @@ def signals_of(made: Carried, inputs: Inputs, held: dict[str, list[Connection]],
                options: SumoOptions) -> list[Limit]:
     """The exit limits of edges with signals, by the shares of their turns in the routes."""
     turns: dict[str, dict[str, int]] = {}
-    for route in inputs.turns_before or inputs.routes:
-        for edge, after in zip(route.links, route.links[1:]):
+    for edges, units in units_by_links(inputs.turns_before or inputs.routes).items():
+        for edge, after in zip(edges, edges[1:]):
             if edge in held:
                 of = turns.setdefault(edge, {})
-                of[after] = of.get(after, 0) + route.units
+                of[after] = of.get(after, 0) + units
     limits: list[Limit] = []
     by_turn = 0
     links = {link.name: link for link in case.links}

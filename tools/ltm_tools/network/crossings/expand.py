@@ -16,7 +16,7 @@ from ..fit import most_top
 from ..fitting import stretched
 from ..lines import Line, cut_at
 from ..network import LEAST_M, Network, Node, Road, diagram, most_capacity
-from ..route_splits import Route
+from ..route_splits import Links
 from . import drawing
 from .chosen import Chosen
 from .movements import Movements, Pair
@@ -44,20 +44,19 @@ class Expanded:
     short: int = 0
     """How many approaches are shorter than two links that the step allows."""
 
-    def route(self, route: Route) -> Route | None:
+    def route(self, roads: Links) -> Links | None:
         """A route over roads of the source as one over the roads there are now; none where it takes a turn that is
         forbidden."""
-        links = [self.starts[route.links[0]]] if route.links[0] in self.starts else []
-        for name, after in zip(route.links, route.links[1:]):
+        links = [self.starts[roads[0]]] if roads[0] in self.starts else []
+        for name, after in zip(roads, roads[1:]):
             links.append(name)
             if self.ends[name][1] in self.added:
                 if (name, after) not in self.links:
                     return None
                 turn = self.links[name, after]
                 links += [turn] if turn != name else []
-        last = route.links[-1]
-        links += [last, *([self.stops[last]] if last in self.stops else [])]
-        return Route(tuple(links), route.depart_ms, route.units)
+        last = roads[-1]
+        return (*links, last, *([self.stops[last]] if last in self.stops else []))
 
 
 @dataclass(frozen=True, kw_only=True)

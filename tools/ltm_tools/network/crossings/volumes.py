@@ -7,7 +7,7 @@ from fractions import Fraction
 
 from ...formats import UNITS
 from ..passages import Roads
-from ..route_splits import Route
+from ..route_splits import Departures, Route, by_links
 from .movements import Pair
 
 
@@ -20,12 +20,11 @@ class Volumes:
     slices: int = 1
     """As many as have vehicles."""
 
-    def add(self, link: str, time_ms: int, units: int) -> None:
-        """Counts vehicles that come to the end of a link at a time."""
-        number = time_ms // self.slice_ms
+    def add(self, link: str, departures: Departures, later_ms: int) -> None:
+        """Counts vehicles that come to the end of a link so much later than they set out."""
         of = self.counts.setdefault(link, {})
-        of[number] = of.get(number, 0) + units
-        self.slices = max(self.slices, number + 1)
+        departures.add_to(of, later_ms, self.slice_ms)
+        self.slices = max(self.slices, (departures.times[-1] + later_ms) // self.slice_ms + 1)
 
     def flow(self, links: Iterable[str], number: int) -> float:
         """The vehicles a second of some links together in a slice."""
@@ -50,11 +49,11 @@ def volumes_of(routes: Iterable[Route], roads: Roads, slice_ms: int) -> Volumes:
 def counted(routes: Iterable[Route], times: Mapping[str, int], slice_ms: int) -> Volumes:
     """The vehicles of routes, by the free-flow times of links in ms."""
     made = Volumes(slice_ms)
-    for route in routes:
-        time = route.depart_ms
-        for name in route.links:
-            time += times[name]
-            made.add(name, time, route.units)
+    for links, departures in by_links(routes).items():
+        later = 0
+        for name in links:
+            later += times[name]
+            made.add(name, departures, later)
     return made
 
 
@@ -62,10 +61,10 @@ def turns_counted(routes: Iterable[Route], times: Mapping[str, Fraction], slice_
                   names: Mapping[Pair, str]) -> Volumes:
     """The same of turns by the names that they have, of routes over links of a source."""
     made = Volumes(slice_ms)
-    for route in routes:
-        time = Fraction(route.depart_ms)
-        for pair in zip(route.links, route.links[1:]):
-            time += times[pair[0]]
+    for links, departures in by_links(routes).items():
+        later = Fraction(0)
+        for pair in zip(links, links[1:]):
+            later += times[pair[0]]
             if pair in names:
-                made.add(names[pair], int(time), route.units)
+                made.add(names[pair], departures, int(later))
     return made
