@@ -1,13 +1,16 @@
 """The page: what stands in the file, and in headless Chromium that it shows what the curves say."""
 import json
+import math
 import random
 import re
 import shutil
 import unittest
+from collections.abc import Sequence
 from pathlib import Path
 from typing import Any
 from unittest import mock
 
+import made_gmns
 from browser import ENTER, RIGHT, BrowserTest
 from support import FolderTest
 from test_delay import DATA, read
@@ -294,6 +297,35 @@ class InABrowser(BrowserTest):
         self.assertEqual(self.text("#link h2"), "Link back from B to A, 200 m")
         self.assertEqual(self.browser.console(), [])
 
+    @unittest.skipIf(made_gmns.LACKING, made_gmns.LACKING)
+    def test_streets_of_a_gmns_network_lie_where_they_do(self) -> None:
+        """Each street of a part of Braunschweig as far beside its line in degrees as it is wide, both ways: in a plane
+        a degree to the east is shorter by the cosine of the latitude, and the network fills the map."""
+        made_gmns.write(self.folder / "gmns")
+        (self.folder / "gmns" / "demand.csv").unlink()
+        case = self.folder / "case"
+        assert cli.run(["from-gmns", str(self.folder / "gmns"), str(case), "--rename", "--horizon", "5", "--period",
+                        "5", "--least-step", "100"]) == 0
+        (case / "curves.csv").write_text("kind,name,destination,counts\n")
+        self.browser.open(write_page(self.folder, str(case), "--curves", str(case / "curves.csv")))
+        nodes, streets = made_gmns.read()
+        lines = {one.name: [nodes[one.tail], *one.line, nodes[one.head]] for one in streets}
+        (west, east), (south, north) = ((min(of), max(of)) for of in zip(*(place for line in lines.values()
+                                                                           for place in line)))
+        shorter = math.cos(math.radians((south + north) / 2))
+        box = self.browser.run("const box = document.getElementById('network').getBoundingClientRect(); return"
+                               " [box.left, box.top, box.width, box.height]")
+        scale = min((box[2] - 120) / (east - west) / shorter, (box[3] - 120) / (north - south))
+        ways = self.browser.run("return Object.fromEntries(ltm.cases[0].links.map(({name, source}) => [(source ||"
+                                " [name])[0], ltm.way(name)]))")
+        self.assertEqual(ways.keys(), lines.keys())
+        for name, line in lines.items():
+            drawn = [(box[0] + box[2] / 2 + (x - (west + east) / 2) * shorter * scale,
+                      box[1] + box[3] / 2 - (y - (south + north) / 2) * scale) for x, y in line]
+            self.assertLess(max(*(apart(place, ways[name]) for place in drawn),
+                                *(apart(place, drawn) for place in ways[name])), 6, name)
+        self.assertEqual(self.browser.console(), [])
+
     def test_large(self) -> None:
         """2,000 links and 700 slots: under 20 MB, and open within two seconds of the page's processor time."""
         path = write_page(self.folder, *large(self.folder))
@@ -306,6 +338,17 @@ class InABrowser(BrowserTest):
         self.assertGreater(told["TaskDuration"], 0.01)
         self.assertLess(told["TaskDuration"], 2, told)
         self.assertEqual(self.browser.console(), [])
+
+
+def apart(place: Sequence[float], line: Sequence[Sequence[float]]) -> float:
+    """How far a place is from a line."""
+    found = []
+    for (x, y), (to_x, to_y) in zip(line, line[1:]):
+        square = (to_x - x)**2 + (to_y - y)**2
+        along = ((place[0] - x) * (to_x - x) + (place[1] - y) * (to_y - y)) / square if square else 0
+        part = max(0.0, min(1.0, along))
+        found.append(math.dist(place, (x + part * (to_x - x), y + part * (to_y - y))))
+    return min(found)
 
 
 def large(folder: Path) -> list[str]:
