@@ -7,6 +7,13 @@ import commands
 from support import BUILT, FolderTest, needs_splits
 from test_assign import SIGNALS, TWO, needs_numpy
 from test_cluster import ClusterTest, needs_dask
+from ltm_tools import libraries
+from ltm_tools.case import Case, edits
+from ltm_tools.loading.session import Session
+
+if not libraries.missing(("numpy",)):
+    from ltm_tools.assign.assigning import Options
+    from ltm_tools.assign.closing import ALL, NOBODY as NONE, Closure, respond
 
 # TWO with the shares at which nobody gains. Its hours are 60 x 70 s, by `fast` with half a minute in its queue, and
 # 120 x 100 s. Then `fast` is shut for three minutes from 1:00 on:
@@ -53,6 +60,22 @@ class ByHand(FolderTest):
         """Where the shares of the open case are no answer it says so: all by `slow` though `fast` is free."""
         out = closures(str(self.case(**TWO)), *TIMES, "--respond", "nobody", "--links", "slow")[1]
         self.assertIn("the shares of the open case have a turn regret of 60.00 %", out)
+
+    def test_edits_of_those_who_hear(self) -> None:
+        """Edits that make a session's shares theirs: rows before the closure stay as they are, and none where nobody
+        hears of it."""
+        case = Case.read(self.case(**ASSIGNED))
+        closure, options = Closure("fast", 60, 240), Options(iterations=8, period_ms=60_000, size=2.0)
+        for informed, spent in (NONE, NOBODY), (ALL, OPEN):
+            done: list[int] = []
+            found = respond(case, closure, informed, options, BUILT, done.append)
+            with Session(self.folder / "case", program=BUILT) as session:
+                session.edit(edits.limit(*closure, 0), *found.edits)
+                session.settle()
+                self.assertEqual((session.delay().spent, found.cost.spent), (spent * 10**6, spent * 10**6))
+            self.assertEqual(done, [] if informed == NONE else list(range(8)))
+            self.assertEqual([(edit["kind"], edit["rows"][:2]) for edit in found.edits],  # type: ignore[index]
+                             [] if informed == NONE else [("splits", [[0, {"fast": 1}], [60, {"slow": 1000}]])])
 
     def test_faults(self) -> None:
         self.case(**ASSIGNED)

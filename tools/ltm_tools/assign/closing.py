@@ -7,24 +7,26 @@ with the closure shows them, from the period on in which it begins, and the othe
 from __future__ import annotations
 
 import os
-from collections.abc import Sequence
+from collections.abc import Callable, Sequence
 from dataclasses import dataclass
 from typing import NamedTuple
 
 import numpy
 
 from ..case import Case, Limit, edits
+from ..case.edits import Edit
 from ..errors import Fault
 from .assigning import Options, Sizes, last_period
 from .engine import Engine
 from .looking import Look, Looker
 from .net import WHOLE, Net, Whole
 from .regret import lost_times, total
-from .shares import check_ways, of_splits, periods_of, rounded, rows_of, with_last
+from .shares import Pair, PairRows, check_ways, of_splits, periods_of, rounded, rows_of, with_last
 from .steps import stepped
 
 NOBODY, HALF, ALL = 0, 50, 100
 WORDS = {"nobody": NOBODY, "half": HALF, "all": ALL}
+RESPONDING = Options(iterations=8)
 
 
 class Closure(NamedTuple):
@@ -45,6 +47,13 @@ class Cost(NamedTuple):
     not_there: int
     regret: float
     iteration: int
+
+
+class Response(NamedTuple):
+    """What a closure costs where a share of those who pass find another way, and the edits by which they do."""
+
+    cost: Cost
+    edits: list[Edit]
 
 
 class Passed(NamedTuple):
@@ -89,36 +98,64 @@ class Base:
     def costs(self, closure: Closure, informed: Sequence[int],
               program: str | os.PathLike[str] | None) -> list[Cost]:
         """What a closure costs with each of these per cent informed."""
-        self.looker.shut([Limit(*closure, 0)])
+        found: dict[int, Cost] = {}
         with self.engine(program) as engine:
-            engine.limit(edits.limit(*closure, 0))
-            found: dict[int, Cost] = {}
-            nobody = self.looker.look(engine, self.weights, self.period)
+            nobody = self._nobody(engine, closure)
             for share in sorted(set(informed)):
-                if share == NOBODY:
-                    found[share] = Cost(share, nobody.spent, nobody.not_there, 0.0, 0)
-                else:
-                    found[share] = self._responding(engine, nobody, closure.first // self.period, share)
+                found[share] = self._responding(engine, nobody, closure, share)[0]
         return [found[share] for share in informed]
 
-    def _responding(self, engine: Engine, nobody: Look, first: int, share: int) -> Cost:
-        """The iteration in which the informed have the least regret, the shares from period `first` on being theirs."""
-        sizes, weights, look = Sizes(self.options.size), self.weights, nobody
-        best: Cost | None = None
-        for iteration in range(1, self.options.iterations + 1):
+    def response(self, closure: Closure, informed: int, program: str | os.PathLike[str] | None,
+                 done: Callable[[int], object]) -> Response:
+        """What a closure costs with so many per cent informed, and their edits."""
+        with self.engine(program) as engine:
+            nobody = self._nobody(engine, closure)
+            cost, weights = self._responding(engine, nobody, closure, informed, done)
+        return Response(cost, self._edits(weights, closure.first // self.period))
+
+    def _nobody(self, engine: Engine, closure: Closure) -> Look:
+        """The loading with a closure and the shares of before."""
+        self.looker.shut([Limit(*closure, 0)])
+        engine.limit(edits.limit(*closure, 0))
+        return self.looker.look(engine, self.weights, self.period)
+
+    def _responding(self, engine: Engine, nobody: Look, closure: Closure, share: int,
+                    done: Callable[[int], object] = lambda _: None) -> tuple[Cost, Whole]:
+        """The iteration in which the informed have the least regret, and the shares of all in it; those from the period
+        on in which the link is shut are theirs."""
+        if share == NOBODY:
+            return Cost(share, nobody.spent, nobody.not_there, 0.0, 0), self.weights
+        sizes, weights, mixed, look = Sizes(self.options.size), self.weights, self.weights, nobody
+        best: tuple[Cost, Whole] | None = None
+        for iteration in range(self.options.iterations + 1):
             regret = self._regret(look, weights, share)
-            if iteration > 1 and (best is None or regret < best.regret):
-                best = Cost(share, look.spent, look.not_there, regret, iteration - 1)
-            size = sizes.after(regret)
-            weights = self._turned(look, weights, first, size)
+            if iteration and (best is None or regret < best[0].regret):
+                best = Cost(share, look.spent, look.not_there, regret, iteration), mixed
+            if iteration == self.options.iterations:
+                break
+            done(iteration)
+            weights = self._turned(look, weights, closure.first // self.period, sizes.after(regret))
             mixed = rounded(self.net, (share * weights + (ALL - share) * self.weights) / (ALL * WHOLE))
             engine.tell(rows_of(self.net, mixed, self.period))
             look = self.looker.look(engine, mixed, self.period)
-        regret = self._regret(look, weights, share)
-        if best is None or regret < best.regret:
-            best = Cost(share, look.spent, look.not_there, regret, self.options.iterations)
         engine.tell(rows_of(self.net, self.weights, self.period))
+        assert best is not None, "there is at least one iteration"
         return best
+
+    def _edits(self, weights: Whole, first: int) -> list[Edit]:
+        """Edits that set these weights from period `first` on, where they are others than those of before; rows before
+        it stay as the case has them."""
+        own: dict[Pair, PairRows] = {}
+        for row in sorted(self.case.standing_splits(), key=lambda row: row.from_slot):
+            own.setdefault((row.node, row.destination), []).append((row.from_slot, dict(row.weights)))
+        start = first * self.period
+        whole, before = (rows_of(self.net, self.weights[span:], self.period) for span in (0, first))
+        found = []
+        for pair, rows in rows_of(self.net, weights[first:], self.period).items():
+            if rows != before[pair]:
+                kept = [row for row in own.get(pair, whole[pair]) if row[0] < start]
+                found.append(edits.splits(*pair, [*kept, *((start + slot, of_row) for slot, of_row in rows)]))
+        return found
 
     def _regret(self, look: Look, weights: Whole, share: int) -> float:
         """The regret of the informed, who have these weights."""
@@ -128,3 +165,12 @@ class Base:
         """The weights of the informed after a step; those of earlier periods stay."""
         made = with_last(rounded(self.net, stepped(self.net, look.labels, weights, size)), last_period(look.labels))
         return numpy.concatenate((self.weights[:first], made[first:]))
+
+
+def respond(case: Case, closure: Closure, informed: int, options: Options = RESPONDING,
+            program: str | os.PathLike[str] | None = None,
+            done: Callable[[int], object] = lambda _: None) -> Response:
+    """What a closure costs where so many per cent of those who pass find another way, from the shares of a case as it
+    stands, and edits of splits by which they do; the closure itself is none of them. `done` is called with the number
+    of iterations that are done before each, and may end it by an exception."""
+    return Base(case, options).response(closure, informed, program, done)
