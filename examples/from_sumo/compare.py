@@ -22,8 +22,8 @@ from statistics import correlation
 sys.dont_write_bytecode = True
 sys.path.insert(0, str(Path(__file__).resolve().parents[2] / "tools"))
 
-from ltm_tools import program  # noqa: E402
 from ltm_tools.case import Case  # noqa: E402
+from ltm_tools.commands.arguments import add_program_argument  # noqa: E402
 from ltm_tools.errors import Fault  # noqa: E402
 from ltm_tools.formats import UNITS, clock_text  # noqa: E402
 from ltm_tools.loading.delay import MILLIONTHS, Report  # noqa: E402
@@ -192,7 +192,7 @@ def parse_args() -> argparse.Namespace:
     parser.add_argument("--also", action="store_true",
                         help="run SUMO again with other settings, and tell the vehicle hours of each")
     parser.add_argument("--sumo", default="", metavar="WORDS", help="more words for SUMO, as '--seed 7'")
-    program.add_program_argument(parser)
+    add_program_argument(parser)
     return parser.parse_args()
 
 
