@@ -100,15 +100,22 @@ def read_run(folder: Path, net: Net) -> Run:
 
 
 def labels(source: Source, net: Net) -> dict[str, str]:
-    """Of each link of the case the edges of the net that it is made of, or is a part or a turn of; a link that was made
-    has its own name."""
-    edges: dict[str, list[str]] = {}
+    """Of each link of the case the edges of the net that it is made of, or is a part or a turn of, with those that
+    share a link with one of these, as where a turn and its exit have become one; a link that was made has its own
+    name."""
+    groups: dict[str, list[str]] = {}
+    first: dict[str, str] = {}
     for name, link in source.links.items():
         edge = name if name in net.network.roads else name.rsplit("_", 1)[0]
-        for part in link.all_links if edge in net.network.roads else ():
-            if edge not in edges.setdefault(part, []):
-                edges[part].append(edge)
-    return {link: " ".join(names) for link, names in edges.items() if names}
+        if edge not in net.network.roads or not link.all_links:
+            continue
+        groups.setdefault(edge, [edge])
+        for part in link.all_links:
+            other = groups[first.setdefault(part, edge)]
+            if other is not groups[edge]:
+                other += groups[edge]
+                groups |= dict.fromkeys(groups[edge], other)
+    return {link: " ".join(groups[edge]) for link, edge in first.items()}
 
 
 def by_label(report: Report, run: Run, source: Source, net: Net) -> tuple[dict[str, Fraction], dict[str, Fraction]]:

@@ -68,6 +68,10 @@ class Read(FolderTest):
         # a link with turns: those of `in` count for it
         source = Source({"in": SourceLink("A", "B", "x", ("z",)), "on": SourceLink("B", "C", "y")}, {})
         self.assertEqual(compare.by_label(report, self.run_of, source, self.net)[0], {"in": 12, "on": 6, "made": 8})
+        # that turn has become one with `on`: both edges have all of it
+        source = Source({"in": SourceLink("A", "B", "x", ("y",)), "on": SourceLink("B", "C", "y")}, {})
+        self.assertEqual(compare.by_label(report, self.run_of, source, self.net),
+                         ({"in on": 11, "z": 7, "made": 8}, {"in on": 30}))
         source = Source({"in": SourceLink("A", "B", "x"), "on": SourceLink("B", "C", "x")}, {})
         self.assertEqual(compare.by_label(report, self.run_of, source, self.net)[1], {"in on": 30})
 
