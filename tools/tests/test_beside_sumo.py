@@ -5,21 +5,26 @@ import subprocess
 import sys
 import unittest
 from fractions import Fraction
+from pathlib import Path
 from typing import Any
 
 from support import BUILT, EXAMPLES, FolderTest, needs_program
 
 from ltm_tools.case import Case, Demand, Link, Setup
 from ltm_tools.loading.delay import MILLIONTHS, Delay, Report, Wait
-from ltm_tools.loading.loaded import loaded, told_delay
-from ltm_tools.network.passages import Roads
 from ltm_tools.network.source import Source, SourceLink
 from ltm_tools.sumo.net import read_net
 
 
+FROM_SUMO = EXAMPLES / "from_sumo"
+IMPORT = EXAMPLES.parent / "tools" / "ltm-tools"
+TOWN = ("town.net.xml", "town.rou.xml", "town.add.xml")
+BOLOGNA = "/usr/share/sumo/tools/sumolib/scenario/scenarios/RealWorld/joined/joined"
+
+
 def example_script() -> Any:
     """The script of the example as a module."""
-    spec = importlib.util.spec_from_file_location("compare_example", EXAMPLES / "from_sumo" / "compare.py")
+    spec = importlib.util.spec_from_file_location("compare_example", FROM_SUMO / "compare.py")
     assert spec is not None and spec.loader is not None
     module = importlib.util.module_from_spec(spec)
     sys.modules["compare_example"] = module
@@ -102,40 +107,46 @@ def release() -> str:
 
 @needs_program
 @unittest.skipUnless(release().endswith(" 1.15.0"), "SUMO 1.15.0, which made the town of town.out, is not there")
-class Town(FolderTest):
-    def make(self, *words: str) -> None:
-        """The town, and the case that is made of it with these words."""
-        tools = EXAMPLES.parent / "tools" / "ltm-tools"
-        for line in ([EXAMPLES / "from_sumo" / "make.py", "town", "."],
-                     [tools, "from-sumo", "town.net.xml", "town.rou.xml", "town.add.xml", "case", "--fit", "5s",
-                      "--horizon", "75", *words]):
+class Beside(FolderTest):
+    def run_all(self, *lines: list[str | Path]) -> str:
+        """What the last of some commands writes, all of which run in the folder of the test and end well."""
+        for line in lines:
             done = subprocess.run([str(word) for word in line], cwd=self.folder, capture_output=True, text=True)
             self.assertEqual((done.returncode, done.stderr), (0, ""))
+        return done.stdout
 
-    def test_its_report_without_signals_is_that_of_another_engine(self) -> None:
+    def make(self, *words: str) -> None:
+        """The town, and the case that is made of it with these words."""
+        self.run_all([FROM_SUMO / "make.py", "town", "."],
+                     [IMPORT, "from-sumo", *TOWN, "case", "--fit", "5s", "--horizon", "75", *words])
+
+    def compared(self, *words: str | Path) -> tuple[float, float, float]:
+        """The vehicle hours of the case and of SUMO, and the correlation of delay by edge, as compare.py tells them."""
+        told = self.run_all([FROM_SUMO / "compare.py", "case", *words, "--program", BUILT])
+        hours = next(line.split() for line in told.splitlines() if line.startswith("all "))
+        return float(hours[1]), float(hours[2]), float(told.split()[-1])
+
+    def test_the_towns_report_without_signals_is_that_of_another_engine(self) -> None:
         self.make("--moves", "0", "--turns", "none")
         setup = self.folder / "case" / "setup.csv"
         header, row = setup.read_text().split()
         self.assertEqual(header.split(",")[3:], ["signals"])
         setup.write_text(header.removesuffix(",signals") + "\n" + row.removesuffix(",1") + "\n")
         told = subprocess.run([str(BUILT), "load"], cwd=self.folder / "case", capture_output=True, text=True)
-        self.assertEqual(told.stdout, (EXAMPLES / "from_sumo" / "town.out").read_text())
+        self.assertEqual(told.stdout, (FROM_SUMO / "town.out").read_text())
 
-    def test_with_turns_it_is_near_to_sumo(self) -> None:
+    def test_the_town_with_turns_is_near_to_sumo(self) -> None:
         self.make("--no-yellow", "--lanes", "counted")
-        net = read_net(self.folder / "town.net.xml", vehicle_class="passenger", headway=Fraction(113, 100),
-                       spacing=Fraction(15, 2))
-        ran = self.folder / "run"
-        ran.mkdir()
-        compare.run_sumo(str(self.folder / "town.net.xml"),
-                         [str(self.folder / "town.rou.xml"), str(self.folder / "town.add.xml")], [], ran)
-        run, folder = compare.read_run(ran, net), self.folder / "case"
-        loading = loaded(folder, None, str(BUILT))
-        report = told_delay(loading, folder, None, str(BUILT))
-        source = Source.read(folder, Roads.of(loading.case.links))
-        ours, theirs = compare.by_label(report, run, source, net)
-        self.assertGreater(compare.likeness(ours, theirs), 0.985)
-        self.assertLess(abs(Fraction(report.spent, MILLIONTHS) / run.spent - 1), Fraction(3, 100))
+        ours, theirs, likeness = self.compared(*TOWN)
+        self.assertGreater(likeness, 0.985)
+        self.assertLess(abs(ours / theirs - 1), 0.03)
+
+    @unittest.skipUnless(Path(f"{BOLOGNA}.rou.xml").exists(), "Debian's sumo-tools, which has Bologna, is not there")
+    def test_a_real_network_is_near_to_sumo_without_its_drop(self) -> None:
+        net, types, routes, plans = (f"{BOLOGNA}{end}.xml" for end in ("_buslanes.net", "_vtypes.add", ".rou",
+                                                                       "_tls.add"))
+        self.run_all([IMPORT, "from-sumo", net, types, routes, plans, "case", "--fit", "2s", "--horizon", "150"])
+        self.assertGreater(self.compared(net, routes, types, plans, "--sumo", " ".join(compare.NO_DROP))[2], 0.85)
 
 
 if __name__ == "__main__":
