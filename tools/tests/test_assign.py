@@ -32,6 +32,9 @@ TWO = {"setup": "step_ms,slots,origin_capacity,signals\n1000,400,32,1\n",
        "demand": "origin,destination,from_slot,to_slot,vehicles\no,d,0,180,180\n",
        "splits": "node,destination,from_slot,weights\no,d,0,slow=1\n",
        "signals": SIGNALS + "fast,0,400,0.5\n"}
+# the same with `slow` as a turn that yields to `fast` for the whole of each cycle
+TURNS = ("approach,exit,link,vehicles,lanes,saturation,cycle,offset,greens,permitted,opposing,opposing_saturation,"
+         "permissive,factors\nw,e,slow,0,1,1800,60,0,,0-60,fast,1800,4.5 2.2 1,1\n")
 # `ou` and `vd` take 40 s and let half a vehicle a second through, `ov` and `ud` 120 s, the bridge `uv` 40 s. Without it
 # half go each way, and all take 160 s. With it all take `ou`, `uv`, `vd` for 40 s, until `ou` costs 40 s more; then
 # half take `ov`, so that 80 s later the queue of `vd` grows to 40 s, and from then on nobody takes the bridge: all
@@ -180,6 +183,25 @@ class Command(FolderTest):
         after = list(csv.DictReader((self.folder / "made/iterations.csv").read_text().splitlines()))
         self.assertEqual((len(after), after[0]["regret"]), (1, min((row["regret"] for row in before), key=float)))
 
+    def test_rounds(self) -> None:
+        """Behind the first round a turn that yields has its part of the green by who drives then. By `fast` drive 120
+        in ten minutes, so q = 0.2 a second; c = q exp(-4.5 q) / (1 - exp(-2.2 q)) = 0.228 go in its gaps, and one
+        more a cycle: of 0.5 a second 0.490, and so many thousandths of the one a second of `slow`. Other limits
+        stay."""
+        self.case(**{**TWO, "splits": "node,destination,from_slot,weights\no,d,0,fast=1\no,d,60,fast=1 slow=1\n"},
+                  turns=TURNS)
+        status, out, err = self.assign("--iterations", "0", "--rounds", "2")
+        self.assertEqual((status, err, out.splitlines()[3]),
+                         (0, "", "round 2: turns that yield have their part of the green by who drove in the best"
+                                 " iteration"), out)
+        self.assertIn("made: iteration 1, ", out)
+        with open(self.folder / "made/turns.csv", encoding="utf-8", newline="") as file:
+            self.assertEqual([(row["vehicles"], row["factors"]) for row in csv.DictReader(file)], [("60", "0.490")])
+        self.assertEqual({(limit.link, limit.units) for limit in Case.read(self.folder / "made").signals},
+                         {("fast", 500), ("slow", 490)})
+        rows = csv.DictReader((self.folder / "made/iterations.csv").read_text().splitlines())
+        self.assertEqual([(row["iteration"], row["round"]) for row in rows], [("0", "1"), ("1", "2")])
+
     def test_stopped(self) -> None:
         """Where it is interrupted the best so far is kept."""
         self.case(**TWO)
@@ -203,14 +225,6 @@ class Command(FolderTest):
         self.assertRaisesRegex(Fault, "iterations.csv is not there: `ltm-tools assign` writes it", read_iterations,
                                self.folder / "case")
 
-    def test_gap(self) -> None:
-        """Where the program tells a gap, its line on the result stands last."""
-        self.case(**TWO)
-        with patch("ltm_tools.commands.assign.has_command", return_value=True), \
-                patch("ltm_tools.commands.assign.output", return_value=b"version 0 gap 1.000000\nto d 1\n") as asked:
-            self.assertEqual(self.assign("--iterations", "0")[1].splitlines()[-1], "version 0 gap 1.000000")
-        asked.assert_called_once_with(str(self.folder / "made"), "gap", program=str(BUILT))
-
     def test_late(self) -> None:
         """Who is not there by the end is told by destination: 180 less the 60 who took `slow` in time."""
         self.case(**{**TWO, "setup": TWO["setup"].replace("400", "160"),
@@ -222,6 +236,8 @@ class Command(FolderTest):
     def test_faults(self) -> None:
         self.case(**TWO)
         for words, told in ((("--period", "0.01"), "a period of 600 ms is no whole number of steps of 1000 ms"),
+                            (("--rounds", "2"), "turns.csv: there is none; from-sumo and from-gmns write it"),
+                            (("--rounds", "0"), "--rounds is at least 1"),
                             (("--method", "dice"), "'dice' is no method: gradient, averages, self-regulating are"),
                             (("--from", str(EXAMPLES / "closures")), "no split row there is of a node")):
             status, out, err = self.assign(*words)

@@ -25,13 +25,21 @@ Step = Callable[[Net, Labels, Whole, float], Real]
 @dataclass(frozen=True)
 class Options:
     """How shares are sought: at most so many iterations, until the regret is at most so many per cent; the length of a
-    period; the first step's size, and by which rule (see `METHODS`)."""
+    period; by which rule (see `METHODS`), and the first step's size, by default that of the rule."""
 
     iterations: int = 30
     until: float = 0.0
     period_ms: int = 5 * MINUTE_MS
-    size: float = 3.0
+    size: float | None = None
     method: str = "gradient"
+
+    @property
+    def rule(self) -> Rule:
+        """The rule by which shares go over; a Fault where there is none of this name."""
+        if self.method not in METHODS:
+            raise Fault(f"{self.method!r} is no method: {', '.join(METHODS)} are")
+        rule = METHODS[self.method]
+        return rule if self.size is None else rule._replace(size=self.size)
 
     def slots(self, case: Case) -> int:
         """The slots of a period; a Fault where they are not whole."""
@@ -42,11 +50,12 @@ class Options:
 
 
 class Iteration(NamedTuple):
-    """A loading of the loop: its number, what it says, and the step's size behind it."""
+    """A loading of the loop: its number, what it says, the step's size behind it, and its round."""
 
     number: int
     look: Look
     size: float
+    round: int = 1
 
 
 class Sizes:
@@ -88,8 +97,16 @@ class SelfRegulating(Sizes):
         return self.size / self.divisor
 
 
-METHODS: dict[str, tuple[Step, type[Sizes]]] = {
-    "gradient": (stepped, Sizes), "averages": (averaged, Averages), "self-regulating": (averaged, SelfRegulating)}
+class Rule(NamedTuple):
+    """How shares go over: a step, what changes its size, and the first size."""
+
+    step: Step
+    sizes: type[Sizes]
+    size: float
+
+
+METHODS = {"gradient": Rule(stepped, Sizes, 3.0), "averages": Rule(averaged, Averages, 1.0),
+           "self-regulating": Rule(averaged, SelfRegulating, 1.0)}
 
 
 class Assignment:
@@ -100,9 +117,7 @@ class Assignment:
         routes."""
         if not case.standing_demand():
             raise Fault("the case has no demand, so nobody seeks a way")
-        if options.method not in METHODS:
-            raise Fault(f"{options.method!r} is no method: {', '.join(METHODS)} are")
-        self.case, self.options, self.period = case, options, options.slots(case)
+        self.case, self.options, self.rule, self.period = case, options, options.rule, options.slots(case)
         self.net = Net(case)
         check_ways(self.net)
         own = case.standing_splits() if splits is None else splits
@@ -110,33 +125,33 @@ class Assignment:
         self.ahead: Whole | None = None
         self.best = self.weights
         self.best_one: Iteration | None = None
+        self.best_left: Whole | None = None  # what has left each link by each boundary
 
     def run(self, program: str | os.PathLike[str] | None = None) -> Iterator[Iteration]:
         """Each iteration as it is done, the first of the shares that it begins with; the last is that behind which no
         share changes, at the latest."""
-        step, sizes = METHODS[self.options.method][0], METHODS[self.options.method][1](self.options.size)
+        sizes = self.rule.sizes(self.rule.size)
         looker = Looker(self.net)
         with Engine(self.net, rows_of(self.net, self.weights, self.period), program) as engine:
             for number in range(self.options.iterations + 1):
-                look = looker.look(engine, self.weights, self.period)
+                look, labels, left = looker.look(engine, self.weights, self.period)
                 made = Iteration(number, look, sizes.after(look.regret))
                 if self.best_one is None or look.regret < self.best_one.look.regret:
-                    self.best, self.best_one = self.weights, made
+                    self.best, self.best_one, self.best_left = self.weights, made, left
                 yield made
                 if look.per_cent <= self.options.until or number == self.options.iterations:
                     return
-                self.weights = self._next(step, made)
+                self.weights = self._next(labels, made.size)
                 if not engine.tell(rows_of(self.net, self.weights, self.period)):
                     return
 
-    def _next(self, step: Step, made: Iteration) -> Whole:
+    def _next(self, labels: Labels, size: float) -> Whole:
         """The weights behind an iteration. Which links lead on is told by this and earlier loadings, half by the last,
         so that few links cease to at once."""
-        labels = made.look.labels
         if self.ahead is not None:
             labels.ahead = (self.ahead + labels.ahead) // 2
         self.ahead = labels.ahead
-        weights = rounded(self.net, step(self.net, labels, self.weights, made.size))
+        weights = rounded(self.net, self.rule.step(self.net, labels, self.weights, size))
         return with_last(weights, last_period(labels))
 
     def best_case(self) -> Case:

@@ -18,7 +18,7 @@ from ..case.edits import Edit
 from ..errors import Fault
 from .assigning import Options, Sizes, last_period
 from .engine import Engine
-from .looking import Look, Looker
+from .looking import Look, Looker, Seen
 from .net import WHOLE, Net, Whole
 from .regret import lost_times, total
 from .shares import Pair, PairRows, check_ways, of_splits, periods_of, rounded, rows_of, with_last
@@ -89,7 +89,7 @@ class Base:
         self.looker.shut([])
         with self.engine(program) as engine:
             counts = engine.counts()
-            look = self.looker.seen(counts, engine.spent(), self.weights, self.period)
+            look = self.looker.seen(counts, engine.spent(), self.weights, self.period).look
         passed = (counts.entered[end] - counts.entered[first]).tolist()
         order = {link.name: place for place, link in enumerate(self.case.links)}
         busiest = sorted(zip(self.net.names, passed), key=lambda link: (-link[1], order[link[0]]))
@@ -113,31 +113,31 @@ class Base:
             cost, weights = self._responding(engine, nobody, closure, informed, done)
         return Response(cost, self._edits(weights, closure.first // self.period))
 
-    def _nobody(self, engine: Engine, closure: Closure) -> Look:
+    def _nobody(self, engine: Engine, closure: Closure) -> Seen:
         """The loading with a closure and the shares of before."""
         self.looker.shut([Limit(*closure, 0)])
         engine.limit(edits.limit(*closure, 0))
         return self.looker.look(engine, self.weights, self.period)
 
-    def _responding(self, engine: Engine, nobody: Look, closure: Closure, share: int,
+    def _responding(self, engine: Engine, nobody: Seen, closure: Closure, share: int,
                     done: Callable[[int], object] = lambda _: None) -> tuple[Cost, Whole]:
         """The iteration in which the informed have the least regret, and the shares of all in it; those from the period
         on in which the link is shut are theirs."""
         if share == NOBODY:
-            return Cost(share, nobody.spent, nobody.not_there, 0.0, 0), self.weights
-        sizes, weights, mixed, look = Sizes(self.options.size), self.weights, self.weights, nobody
+            return Cost(share, nobody.look.spent, nobody.look.not_there, 0.0, 0), self.weights
+        sizes, weights, mixed, seen = Sizes(self.options.rule.size), self.weights, self.weights, nobody
         best: tuple[Cost, Whole] | None = None
         for iteration in range(self.options.iterations + 1):
-            regret = self._regret(look, weights, share)
+            regret = self._regret(seen, weights, share)
             if iteration and (best is None or regret < best[0].regret):
-                best = Cost(share, look.spent, look.not_there, regret, iteration), mixed
+                best = Cost(share, seen.look.spent, seen.look.not_there, regret, iteration), mixed
             if iteration == self.options.iterations:
                 break
             done(iteration)
-            weights = self._turned(look, weights, closure.first // self.period, sizes.after(regret))
+            weights = self._turned(seen, weights, closure.first // self.period, sizes.after(regret))
             mixed = rounded(self.net, (share * weights + (ALL - share) * self.weights) / (ALL * WHOLE))
             engine.tell(rows_of(self.net, mixed, self.period))
-            look = self.looker.look(engine, mixed, self.period)
+            seen = self.looker.look(engine, mixed, self.period)
         engine.tell(rows_of(self.net, self.weights, self.period))
         assert best is not None, "there is at least one iteration"
         return best
@@ -157,13 +157,13 @@ class Base:
                 found.append(edits.splits(*pair, [*kept, *((start + slot, of_row) for slot, of_row in rows)]))
         return found
 
-    def _regret(self, look: Look, weights: Whole, share: int) -> float:
+    def _regret(self, seen: Seen, weights: Whole, share: int) -> float:
         """The regret of the informed, who have these weights."""
-        return total(lost_times(self.net, look.labels, weights)) * share / ALL
+        return total(lost_times(self.net, seen.labels, weights)) * share / ALL
 
-    def _turned(self, look: Look, weights: Whole, first: int, size: float) -> Whole:
+    def _turned(self, seen: Seen, weights: Whole, first: int, size: float) -> Whole:
         """The weights of the informed after a step; those of earlier periods stay."""
-        made = with_last(rounded(self.net, stepped(self.net, look.labels, weights, size)), last_period(look.labels))
+        made = with_last(rounded(self.net, stepped(self.net, seen.labels, weights, size)), last_period(seen.labels))
         return numpy.concatenate((self.weights[:first], made[first:]))
 
 

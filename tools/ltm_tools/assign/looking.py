@@ -15,18 +15,25 @@ from .regret import lost_times, total
 
 
 class Look(NamedTuple):
-    """The vehicle time of a loading and its turn regret, in thousandths of a vehicle times ms, who is not there by the
-    end, and the labels."""
+    """The vehicle time of a loading and its turn regret, in thousandths of a vehicle times ms, and who is not there by
+    the end."""
 
     spent: int
     not_there: int
     regret: float
-    labels: Labels
 
     @property
     def per_cent(self) -> float:
         """The regret in per cent of the vehicle time."""
         return 100 * self.regret / self.spent if self.spent else 0.0
+
+
+class Seen(NamedTuple):
+    """What a loading says, its labels, and what has left each link by each boundary."""
+
+    look: Look
+    labels: Labels
+    left: Whole
 
 
 class Looker:
@@ -48,14 +55,14 @@ class Looker:
         limits."""
         return numpy.add.reduceat(self.passing, numpy.arange(0, self.net.slots, period), axis=0).astype(numpy.float64)
 
-    def look(self, engine: Engine, weights: Whole, period: int) -> Look:
+    def look(self, engine: Engine, weights: Whole, period: int) -> Seen:
         """What the engine's loading says, which has these weights."""
         return self.seen(engine.counts(), engine.spent(), weights, period)
 
-    def seen(self, counts: Counts, spent: tuple[int, int], weights: Whole, period: int) -> Look:
+    def seen(self, counts: Counts, spent: tuple[int, int], weights: Whole, period: int) -> Seen:
         """What a loading with these counts, vehicle time and late vehicles says."""
         labels = self.labels(counts, weights, period)
-        return Look(*spent, total(lost_times(self.net, labels, weights)), labels)
+        return Seen(Look(*spent, total(lost_times(self.net, labels, weights))), labels, counts.left)
 
     def labels(self, counts: Counts, weights: Whole, period: int) -> Labels:
         """The labels of a loading."""

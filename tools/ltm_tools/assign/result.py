@@ -12,10 +12,11 @@ from ..formats import count_text, vehicles_text
 from ..listing import csv_text
 from ..loading.delay import MILLIONTHS, seconds_text
 from ..loading.loaded import made
-from .assigning import Assignment, Iteration
+from .assigning import Iteration
+from .rounds import Rounds
 
 ITERATIONS_FILE = "iterations.csv"
-FIELDS = ("iteration", "spent", "regret", "not_there", "step")
+FIELDS = ("iteration", "round", "spent", "regret", "not_there", "step")
 MOST_LATE = 3  # destinations that are named
 
 
@@ -31,20 +32,22 @@ def splits_from(folder: str | os.PathLike[str], case: Case) -> list[Split]:
     return found
 
 
-def write_result(folder: str | os.PathLike[str], to: str | os.PathLike[str], assignment: Assignment,
+def write_result(folder: str | os.PathLike[str], to: str | os.PathLike[str], rounds: Rounds,
                  done: Sequence[Iteration]) -> None:
-    """Writes the case with the best shares into a folder, with the iterations, and with what lies beside the case that
-    it was made of, as the places of its nodes."""
+    """Writes the case with the best shares of the last round into a folder, with the iterations, and with what lies
+    beside the case that it was made of, as the places of its nodes."""
     beside = {name: read_bytes(path) for name in BESIDE if os.path.exists(path := os.path.join(folder, name))}
-    assignment.best_case().write(to)
+    rounds.assignment.best_case().write(to)
     for name, data in beside.items():
         write_bytes(os.path.join(to, name), data)
+    if rounds.counted is not None:
+        rounds.counted.write(to)
     write_text(os.path.join(to, ITERATIONS_FILE), csv_text(FIELDS, [row_of(one) for one in done]))
 
 
 def row_of(one: Iteration) -> list[str]:
     """An iteration as it is written: times in vehicle seconds."""
-    return [str(one.number), seconds_text(one.look.spent), seconds_text(round(one.look.regret)),
+    return [str(one.number), str(one.round), seconds_text(one.look.spent), seconds_text(round(one.look.regret)),
             vehicles_text(one.look.not_there), f"{one.size:.6f}"]
 
 
@@ -54,7 +57,7 @@ def read_iterations(folder: str | os.PathLike[str]) -> tuple[list[int], list[flo
     path = os.path.join(folder, ITERATIONS_FILE)
     if not os.path.exists(path):
         raise Fault(f"{path} is not there: `ltm-tools assign` writes it")
-    rows = read_table(path, FIELDS)
+    rows = read_table(path, ("spent", "regret"))
     spent = [int(row.number("spent") * MILLIONTHS) for row in rows]
     regret = [float(row.number("regret") * MILLIONTHS) for row in rows]
     return spent, [100 * part / whole if whole else 0.0 for part, whole in zip(regret, spent)]

@@ -7,14 +7,16 @@ from collections.abc import Iterator
 from typing import TYPE_CHECKING
 
 from ..case import Case
+from ..errors import Fault
 from ..formats import MINUTE_MS, counted, vehicles_text
 from ..listing import HOURS
-from ..program import has_command, output
+from ..program import output
 from ..replacing import together
 from .arguments import add_program_argument, minutes, number, whole
 
 if TYPE_CHECKING:
-    from ..assign.assigning import Assignment, Iteration
+    from ..assign.assigning import Iteration
+    from ..assign.rounds import Rounds
 
 NAME = "assign"
 SUMMARY = "find the shares of routes at which nobody gains by another way, from loadings of the program"
@@ -22,6 +24,7 @@ EXAMPLES = """\
     ltm-tools assign CASE -o ASSIGNED
     ltm-tools assign CASE -o ASSIGNED --iterations 60 --until 0.5 --period 15
     ltm-tools assign OTHER -o ASSIGNED --from ASSIGNED_BEFORE
+    ltm-tools assign TOWN_WITH_TURNS -o ASSIGNED --rounds 3
 
 A line an iteration: the vehicle hours, the turn regret in per cent of these (what those lose who do not go by the best
 link of a node, its destination and its period), who is not there by the end, the size of the step that follows, and
@@ -43,41 +46,51 @@ def add_arguments(parser: argparse.ArgumentParser) -> None:
                         help="how long shares stay the same (5)")
     parser.add_argument("--from", dest="start", metavar="SHARES",
                         help="a folder with the splits to begin with, as of an assigned case (those of CASE)")
-    parser.add_argument("--step", type=number, default=3.0, metavar="SIZE",
-                        help="the size of the first step (3); smaller where hours swing")
+    parser.add_argument("--step", type=number, metavar="SIZE",
+                        help="the size of the first step (3, of averages 1); smaller where hours swing")
+    parser.add_argument("--rounds", type=whole, default=1, metavar="N",
+                        help="so many rounds of iterations, and between them turns that yield get their part of the"
+                        " green anew, by who drives then (1)")
     parser.add_argument("--method", default="gradient", metavar="METHOD",
                         help="gradient (the default), averages or self-regulating")
     add_program_argument(parser)
 
 
 def run(args: argparse.Namespace) -> int:
-    from ..assign.assigning import Assignment, Options
+    from ..assign.assigning import Options
     from ..assign.result import splits_from, write_result
+    from ..assign.rounds import Rounds, turns_that_yield
 
     case = Case.read(args.case)
+    if args.rounds < 1:
+        raise Fault("--rounds is at least 1")
     options = Options(args.iterations, args.until, args.period, args.step, args.method)
-    assignment = Assignment(case, options, None if args.start is None else splits_from(args.start, case))
+    turns = turns_that_yield(args.case, case) if args.rounds > 1 else []
+    rounds = Rounds(case, options, None if args.start is None else splits_from(args.start, case), args.rounds, turns)
     done: list[Iteration] = []
     try:
-        for line in told(assignment, args.program, done):
+        for line in told(rounds, args.program, done):
             print(line, flush=True)
     except KeyboardInterrupt:
         if not done:
             raise
         print("stopped: the best so far is kept", flush=True)
     with together():
-        write_result(args.case, args.output, assignment, done)
-    print(*ending(assignment, done, args), sep="\n")
+        write_result(args.case, args.output, rounds, done)
+    print(*ending(rounds, args), sep="\n")
     return 0
 
 
-def told(assignment: Assignment, program: str | None, done: list[Iteration]) -> Iterator[str]:
-    """A line for each iteration, which are put into `done`."""
-    net, began = assignment.net, time.monotonic()
+def told(rounds: Rounds, program: str | None, done: list[Iteration]) -> Iterator[str]:
+    """A line for each iteration, which are put into `done`, and one for each further round."""
+    assignment, began = rounds.assignment, time.monotonic()
+    net = assignment.net
     yield (f"{counted(len(net.names), 'link')}, {counted(len(net.end_names), 'destination')},"
            f" {counted(len(assignment.weights), 'period')} of {assignment.options.period_ms / MINUTE_MS:g} minutes")
     yield HEADER
-    for one in assignment.run(program):
+    for one in rounds.run(program):
+        if done and one.round > done[-1].round:
+            yield f"round {one.round}: turns that yield have their part of the green by who drove in the best iteration"
         done.append(one)
         now = time.monotonic()
         yield (f"{one.number:>3} {HOURS.show(one.look.spent):>12} {one.look.per_cent:>8.2f} %"
@@ -85,9 +98,9 @@ def told(assignment: Assignment, program: str | None, done: list[Iteration]) -> 
         began = now
 
 
-def ending(assignment: Assignment, done: list[Iteration], args: argparse.Namespace) -> Iterator[str]:
+def ending(rounds: Rounds, args: argparse.Namespace) -> Iterator[str]:
     """What is told of the result: the best iteration, whether it is as near as was wanted, and its gap."""
-    best = assignment.best_one
+    best = rounds.best_one
     assert best is not None
     yield (f"{args.output}: iteration {best.number}, {HOURS.show(best.look.spent)} vehicle hours, turn regret"
            f" {best.look.per_cent:.2f} %")
@@ -98,5 +111,4 @@ def ending(assignment: Assignment, done: list[Iteration], args: argparse.Namespa
         from ..assign.result import late_line
 
         yield late_line(args.output, args.program)
-    if has_command("gap", args.program):
-        yield output(args.output, "gap", program=args.program).decode("ascii", "replace").splitlines()[0]
+    yield output(args.output, "gap", program=args.program).decode("ascii", "replace").splitlines()[0]

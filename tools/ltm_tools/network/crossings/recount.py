@@ -12,7 +12,7 @@ from .limits import limits_of
 from .options import Gap
 from .turn import Turn
 from .turns_file import Turns
-from .volumes import volumes_of
+from .volumes import Volumes, volumes_of
 
 
 @dataclass(frozen=True)
@@ -29,9 +29,18 @@ def recount(case: Case, turns: Sequence[Turn], routes: Sequence[Route], slice_ms
     that of each turn that has one."""
     if gap is not None:
         turns = [replace(turn, permissive=gap) if isinstance(turn.permissive, Gap) else turn for turn in turns]
-    if not any(turn.permitted and isinstance(turn.permissive, Gap) for turn in turns):
+    if not yielding(turns):
         raise Fault("turns.csv has no turn that yields by gaps, so that volumes change nothing")
-    volumes = volumes_of(routes, Roads.of(case.links), slice_ms)
+    return by_volumes(case, turns, volumes_of(routes, Roads.of(case.links), slice_ms))
+
+
+def yielding(turns: Sequence[Turn]) -> bool:
+    """Whether a turn yields by gaps, so that volumes change something."""
+    return any(turn.permitted and isinstance(turn.permissive, Gap) for turn in turns)
+
+
+def by_volumes(case: Case, turns: Sequence[Turn], volumes: Volumes) -> Recounted:
+    """The limits of turns by the vehicles of links; limits of other links stay as they are."""
     links = {link.name: link for link in case.links}
     own = {turn.link for turn in turns if turn.protected or turn.permitted}
     case.signals = [limit for limit in case.signals if limit.link not in own]
