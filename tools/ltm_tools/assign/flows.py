@@ -33,8 +33,9 @@ def arriving(net: Net, moments: Whole) -> tuple[Whole, Real]:
 
 def flows(net: Net, leave: Whole, set_out: Real, weights: Whole, period: int) -> Real:
     """What is at each node for each destination at each boundary, `[slots + 1, N, D]`. `set_out` is what leaves
-    origins' queues, in the same shape with a boundary more; `weights` are the shares `[periods, L, D]`."""
-    found = set_out.copy()
+    origins' queues, in the same shape with a boundary more, and is used up; `weights` are the shares `[periods, L,
+    D]`."""
+    found = set_out
     boundary, part = arriving(net, leave)
     shares = weights / WHOLE
     columns = numpy.arange(len(net.end_names))
@@ -63,8 +64,6 @@ def leaving_origins(net: Net, departures: Departures, moments: Whole) -> Real:
     shape = (net.slots + 2, len(net.node_names), len(net.end_names))
     place = (boundary * shape[1] + departures.origin) * shape[2] + departures.end
     later = departures.amount * part
-    size = shape[0] * shape[1] * shape[2]
-    found = numpy.zeros(size)
-    found += numpy.bincount(place, departures.amount - later, size)
-    found += numpy.bincount(place + shape[1] * shape[2], later, size)
-    return found.reshape(shape)
+    places = numpy.concatenate((place, place + shape[1] * shape[2]))
+    amounts = numpy.concatenate((departures.amount - later, later))
+    return numpy.bincount(places, amounts, shape[0] * shape[1] * shape[2]).reshape(shape)
