@@ -2,8 +2,6 @@
 use Rattle.std.proofs.Common.{◌≡◌, ℕ, ◌<◌, ◌&&◌, ◌||◌, not, List, Bool, false, true, refl, ap, sym, ◌∙◌, subst, arith, inl, inr}
 use Rattle.std.proofs.lemmas.Bool.{cases_eq}
 use Rattle.ltm_curve.specs.Table.{counts_of}
-use Rattle.ltm_curve.specs.declared.curves.Curves.{Curves}
-use Rattle.ltm_curve.specs.declared.changed.Changed.{Changed}
 use Rattle.ltm_node.specs.Inputs.{Inputs}
 use Rattle.ltm_node.specs.Outputs.{Outputs}
 use Rattle.ltm_loading.specs.Setting.{Setting}
@@ -16,11 +14,11 @@ use Rattle.ltm_repair.specs.Facts.{IsSound}
 use Rattle.ltm_repair.specs.Index.{IndexIsCurrent}
 use Rattle.ltm_repair.specs.Moves.{Commits}
 use Rattle.ltm_rows.specs.declared.claim_rows.ClaimRows.{ClaimRows}
-use Rattle.ltm_rows.specs.declared.rows.KeptRows.{KeptRows}
 use Rattle.ltm_working.specs.declared.table.Table.{Table}
 use Rattle.ltm_rows.specs.Claims.{HasClaims, WritesClaim}
 use Rattle.ltm_working.specs.Desks.{desk_at, place_of, changed_at}
 use Rattle.ltm_working.specs.Ready.{ClaimsArePlaced, IsReady}
+use Rattle.ltm_working.specs.Renewed.{RenewsPair}
 use Rattle.ltm_working.specs.Searching.{IsFound}
 use Rattle.ltm_working.specs.Committing.{readers, rewritten}
 use Rattle.ltm_working.specs.Recomputing.{RecomputesInTable}
@@ -81,41 +79,49 @@ abbrev pub between : Table → Frontier → ClaimRows → Table
 between t b r = record t { frontier = b; claims = r }
 
 -- it is marked as claimed and committed, with inputs beside the claim that are not written
-pub record SetsFound (s : Setting) (t : Table) (u v : ℕ) (n : Inputs) (o : Outputs) (h : Changed) (b m f : Frontier) (c : Curves) (k : KeptRows) (r : ClaimRows) : Type 0 where
+pub record SetsFound (s : Setting) (t : Table) (u v : ℕ) (n : Inputs) (o : Outputs) (b : Frontier) (mid end : Table) (r : ClaimRows) : Type 0 where
   pub ready : IsReady s t
   pub found : IsFound s t u v n
   pub marks : ClaimsPair t.frontier b u v
   pub writes : WritesClaim t.claims r u (pair_row s (counts_of t.curves) u v)
-  pub commits : CommitsTable s (between t b r) u v (pair_inputs s (counts_of t.curves) u v) o t.index h m f c k
+  pub commits : CommitsTable s (between t b r) u v (pair_inputs s (counts_of t.curves) u v) o mid end
 
-abbrev pub recomputed : Table → Changed → Frontier → Curves → KeptRows → Table
-recomputed t h f c k = record { curves = c; kept = k; frontier = f; claims = t.claims; index = t.index; changed = h }
+-- whatever stands beside the claims, the pair's counts are set alike
+pub renews_beside : (s : Setting) (u k : ℕ) (o : Outputs) (old mid : Table) (r : ClaimRows) → HasClaims s r → RenewsPair s u k o old mid → RenewsPair s u k o (record old { claims = r }) (record mid { claims = r })
+renews_beside s u k o old mid r has renews = record {
+  fits = record { curves = renews.fits.curves; kept = renews.fits.kept; claims = has; frontier = renews.fits.frontier; index = renews.fits.index; changed = renews.fits.changed };
+  same = ap (λ (z : Table). record z { claims = r }) renews.same;
+  applies = renews.applies;
+  cells = renews.cells;
+  wakes = renews.wakes;
+  kept = renews.kept;
+}
 
-same_after : (s : Setting) (t : Table) (u v : ℕ) (n : Inputs) (o : Outputs) (h : Changed) (b m f : Frontier) (c : Curves) (k : KeptRows) (r : ClaimRows) → SetsFound s t u v n o h b m f c k r →
-    desk_at s (recomputed t h f c k) ≡ desk_at s (committed (between t b r) t.index h f c k)
-same_after s t u v n o h b m f c k r is =
-    same_without s (committed (between t b r) t.index h f c k) t.claims u (pair_row s (counts_of t.curves) u v) is.ready.fits.claims is.writes (λ y. freed s t u v n b m f _ y is.ready is.found is.marks is.commits.wakes is.commits.frees)
+same_after : (s : Setting) (t : Table) (u v : ℕ) (n : Inputs) (o : Outputs) (b : Frontier) (mid end : Table) (r : ClaimRows) → SetsFound s t u v n o b mid end r →
+    desk_at s (committed t mid end) ≡ desk_at s (committed (between t b r) mid end)
+same_after s t u v n o b mid end r is =
+    same_without s (committed (between t b r) mid end) t.claims u (pair_row s (counts_of t.curves) u v) is.ready.fits.claims is.writes
+    (λ y. freed s t u v n b mid.frontier end.frontier _ y is.ready is.found is.marks is.commits.renews.wakes is.commits.frees)
 
-pub recomputed_ready : (s : Setting) (t : Table) (u v : ℕ) (n : Inputs) (o : Outputs) (h : Changed) (b m f : Frontier) (c : Curves) (k : KeptRows) (r : ClaimRows) → SetsFound s t u v n o h b m f c k r → IsReady s (recomputed t h f c k)
-recomputed_ready s t u v n o h b m f c k r is =
-    ready_without s (committed (between t b r) t.index h f c k) t.claims (commits_ready s (between t b r) u v (pair_inputs s (counts_of t.curves) u v) o t.index h m f c k is.commits) is.ready.fits.claims (same_after s t u v n o h b m f c k r is)
+pub recomputed_ready : (s : Setting) (t : Table) (u v : ℕ) (n : Inputs) (o : Outputs) (b : Frontier) (mid end : Table) (r : ClaimRows) → SetsFound s t u v n o b mid end r → IsReady s (committed t mid end)
+recomputed_ready s t u v n o b mid end r is =
+    ready_without s (committed (between t b r) mid end) t.claims (commits_ready s (between t b r) u v (pair_inputs s (counts_of t.curves) u v) o mid end is.commits) is.ready.fits.claims (same_after s t u v n o b mid end r is)
 
-pub recomputes_pair : (s : Setting) (t : Table) (u v : ℕ) (n : Inputs) (o : Outputs) (h : Changed) (b m f : Frontier) (c : Curves) (k : KeptRows) (r : ClaimRows) → SetsFound s t u v n o h b m f c k r → (before : Table) →
-    DropsAtFront s (desk_at s before) (desk_at s t) → changed_at s t ≡ changed_at s before → RecomputesInTable s before u v (pair_row s (counts_of t.curves) u v) (recomputed t h f c k)
-recomputes_pair s t u v n o h b m f c k r is before drops cells =
-    let mid : Table = between t b r in
-    let end : Table = committed mid t.index h f c k in
-    let new : Table = recomputed t h f c k in
-    let same : desk_at s new ≡ desk_at s end = same_after s t u v n o h b m f c k r is in
+pub recomputes_pair : (s : Setting) (t : Table) (u v : ℕ) (n : Inputs) (o : Outputs) (b : Frontier) (mid end : Table) (r : ClaimRows) → SetsFound s t u v n o b mid end r → (before : Table) →
+    DropsAtFront s (desk_at s before) (desk_at s t) → changed_at s t ≡ changed_at s before → RecomputesInTable s before u v (pair_row s (counts_of t.curves) u v) (committed t mid end)
+recomputes_pair s t u v n o b mid end r is before drops cells =
+    let claimed : Table = between t b r in
+    let new : Table = committed t mid end in
+    let same : desk_at s new ≡ desk_at s (committed claimed mid end) = same_after s t u v n o b mid end r is in
     record {
-      between = mid;
+      between = claimed;
       ready = takes_ready s t u v n b r is.ready is.found is.marks is.writes;
-      claims = λ ticket. found_answers s (desk_at s before) t u v ticket n (pair_row s (counts_of t.curves) u v) (desk_at s mid) drops is.found (takes_desk s t u v n b r is.ready is.found is.marks is.writes);
-      same = changed_same s t mid refl ∙ cells;
+      claims = λ ticket. found_answers s (desk_at s before) t u v ticket n (pair_row s (counts_of t.curves) u v) (desk_at s claimed) drops is.found (takes_desk s t u v n b r is.ready is.found is.marks is.writes);
+      same = changed_same s t claimed refl ∙ cells;
       commits = record {
-        commits = subst (λ (d : Desk). Commits s (desk_at s mid) u v (pair_row s (counts_of t.curves) u v) (readers s (desk_at s mid) d u v) d) (sym same) (commits_desk s mid u v (pair_inputs s (counts_of t.curves) u v) o t.index h m f c k is.commits);
+        commits = subst (λ (d : Desk). Commits s (desk_at s claimed) u v (pair_row s (counts_of t.curves) u v) (readers s (desk_at s claimed) d u v) d) (sym same) (commits_desk s claimed u v (pair_inputs s (counts_of t.curves) u v) o mid end is.commits);
         cells = λ g y.
-            ap (λ (z : ℕ → ℕ → Bool). z g y) (changed_same s end new refl)
-            ∙ (commits_cells s mid u v (pair_inputs s (counts_of t.curves) u v) o t.index h m f c k is.commits g y ∙ ap (λ (d : Desk). changed_at s mid g y || rewritten s (desk_at s mid) d g y) (sym same));
+            ap (λ (z : ℕ → ℕ → Bool). z g y) (changed_same s (committed claimed mid end) new refl)
+            ∙ (commits_cells s claimed u v (pair_inputs s (counts_of t.curves) u v) o mid end is.commits g y ∙ ap (λ (d : Desk). changed_at s claimed g y || rewritten s (desk_at s claimed) d g y) (sym same));
       };
     }

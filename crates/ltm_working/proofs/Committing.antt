@@ -5,17 +5,12 @@ use Rattle.std.proofs.lemmas.Bool.{cases_Bool}
 use Rattle.ltm_curve.specs.Counts.{Counts}
 use Rattle.ltm_curve.specs.Table.{counts_of}
 use Rattle.ltm_curve.specs.Cells.{is_changed, IsCell}
-use Rattle.ltm_curve.specs.declared.curves.Curves.{Curves}
-use Rattle.ltm_curve.specs.declared.changed.Changed.{Changed}
 use Rattle.ltm_node.specs.Inputs.{Inputs}
 use Rattle.ltm_node.specs.Outputs.{Outputs}
 use Rattle.ltm_loading.specs.Setting.{Setting}
-use Rattle.ltm_loading.specs.Groups.{groups}
 use Rattle.ltm_loading.specs.Pairs.{shape_at}
 use Rattle.ltm_loading.specs.NextPair.{IsPairInputs}
-use Rattle.ltm_frontier.specs.declared.frontier.Frontier.{Frontier}
 use Rattle.ltm_frontier.specs.Frontier.{nodes_in, slots_in, is_active, is_claimed}
-use Rattle.ltm_index.specs.declared.read_index.ReadIndex.{ReadIndex}
 use Rattle.ltm_repair.specs.Desk.{Desk, IsOther, IsIdle}
 use Rattle.ltm_repair.specs.Facts.{IsClaim}
 use Rattle.ltm_repair.specs.Moves.{Sets, WakesReaders, Commits}
@@ -25,18 +20,15 @@ use Rattle.ltm_repair.proofs.KeepsCommit.{commit_keeps}
 use Rattle.ltm_repair.proofs.Index.{index_stays_current}
 use Rattle.ltm_pairs.specs.Changes.{differs_at}
 use Rattle.ltm_pairs.specs.Readers.{reads_commit}
-use Rattle.ltm_rows.specs.declared.rows.KeptRows.{KeptRows}
 use Rattle.ltm_working.specs.declared.table.Table.{Table}
 use Rattle.ltm_rows.specs.Claims.{claim_row}
 use Rattle.ltm_working.specs.Pairs.{of_pairs, of_cells}
 use Rattle.ltm_working.specs.Desks.{desk_at, place_of, changed_at}
 use Rattle.ltm_working.specs.Ready.{IsReady}
-use Rattle.ltm_working.specs.Waking.{any_differs, changes, wakes}
+use Rattle.ltm_working.specs.Waking.{wakes}
 use Rattle.ltm_working.specs.Committing.{readers, rewritten}
 use Rattle.ltm_working.proofs.Bools.{or_left, and_false}
-use Rattle.ltm_working.proofs.Keeping.{rows_left}
 use Rattle.ltm_rows.proofs.KeptPlaces.{rows_lie}
-use Rattle.ltm_working.proofs.Noting.{cells_stay}
 use Rattle.ltm_working.proofs.Reading.{SetsOutputs, ArePlaced, wakes_are_readers, early, early_reads}
 use Rattle.ltm_working.proofs.Desks.{of_pair, past_pair, cases_pairs, claimed_is, claim_same, claim_off, claimed_row, same_claim, idle_here}
 use Rattle.ltm_working.proofs.Dropping.{pair_test, other_test, and_not}
@@ -44,16 +36,16 @@ use Rattle.ltm_working.proofs.Taking.{one_slot}
 use Rattle.ltm_working.proofs.ChangedCells.{cell_of, no_cell, cases_cells, cells_differ}
 use Rattle.ltm_working.proofs.Committed.{CommitsTable, committed, claim_is, counts_set, kept_this, kept_next, kept_same}
 
-desk_sets : (s : Setting) (t : Table) (u v : ℕ) (n : Inputs) (o : Outputs) (x : ReadIndex) (h : Changed) (m f : Frontier) (c : Curves) (k : KeptRows) → CommitsTable s t u v n o x h m f c k →
-    Sets s (desk_at s t) u v n.row (desk_at s (committed t x h f c k))
+desk_sets : (s : Setting) (t : Table) (u v : ℕ) (n : Inputs) (o : Outputs) (mid end : Table) → CommitsTable s t u v n o mid end →
+    Sets s (desk_at s t) u v n.row (desk_at s (committed t mid end))
 unfolding desk_at
-desk_sets s t u v n o x h m f c k is =
+desk_sets s t u v n o mid end is =
     let claim : IsClaim s (desk_at s t) u v n.row = claim_is s t u v n.row is.ready is.claimed in
-    applied_sets s (desk_at s t) (desk_at s (committed t x h f c k)) u v n.row n o is.setting is.ready.sound is.claimed is.shape refl is.step is.applies
+    applied_sets s (desk_at s t) (desk_at s (committed t mid end)) u v n.row n o is.setting is.ready.sound is.claimed is.shape refl is.step is.renews.applies
     (record {
-      this = kept_this s t u v n o x h m f c k is;
-      next = kept_next s t u v n o x h m f c k is claim.is_node;
-      others = λ w y other apart. kept_same s t u v n o x h m f c k w y is other apart;
+      this = kept_this s t u v n o mid end is;
+      next = kept_next s t u v n o mid end is claim.is_node;
+      others = λ w y other apart. kept_same s t u v n o mid end w y is other apart;
     })
 
 and_not_false : (a : Bool) → (a && not false) ≡ a
@@ -61,37 +53,37 @@ and_not_false true = refl
 and_not_false false = refl
 
 -- what is active is so before or reads the commit
-pub active_readers : (s : Setting) (t : Table) (u v : ℕ) (n : Inputs) (o : Outputs) (x : ReadIndex) (h : Changed) (m f : Frontier) (c : Curves) (k : KeptRows) (w y : ℕ) → CommitsTable s t u v n o x h m f c k →
-    w < s.nodes → y < s.slots → is_active f w y ≡ (is_active t.frontier w y || reads_commit s (counts_of t.curves) (counts_of c) u (v + 1) w y)
+pub active_readers : (s : Setting) (t : Table) (u v : ℕ) (n : Inputs) (o : Outputs) (mid end : Table) (w y : ℕ) → CommitsTable s t u v n o mid end →
+    w < s.nodes → y < s.slots → is_active end.frontier w y ≡ (is_active t.frontier w y || reads_commit s (counts_of t.curves) (counts_of mid.curves) u (v + 1) w y)
 unfolding desk_at
-active_readers s t u v n o x h m f c k w y is p q =
+active_readers s t u v n o mid end w y is p q =
     let old : Counts = counts_of t.curves in
-    let new : Counts = counts_of c in
+    let new : Counts = counts_of mid.curves in
     let claim : IsClaim s (desk_at s t) u v n.row = claim_is s t u v n.row is.ready is.claimed in
-    let sets : SetsOutputs s old new u (v + 1) o = counts_set s t u v n o x h m f c k is in
-    let W : Bool = wakes s old (place_of x) u (v + 1) o w y in
+    let sets : SetsOutputs s old new u (v + 1) o = counts_set s t u v n o mid end is in
+    let W : Bool = wakes s old (place_of t.index) u (v + 1) o w y in
     let R : Bool = reads_commit s old new u (v + 1) w y in
     let in_nodes : w < nodes_in t.frontier = omega (arith, p, is.ready.fits.frontier.nodes) in
     let in_slots : y < slots_in t.frontier = omega (arith, q, is.ready.fits.frontier.slots) in
-    let all : is_active f w y ≡ (is_active t.frontier w y || (W && not (is_claimed t.frontier w y))) =
-    is.frees.active w y (omega (arith, in_nodes, is.wakes.size.nodes)) (omega (arith, in_slots, is.wakes.size.slots)) ∙ is.wakes.active w y in_nodes in_slots in
+    let all : is_active end.frontier w y ≡ (is_active t.frontier w y || (W && not (is_claimed t.frontier w y))) =
+    is.frees.active w y (omega (arith, in_nodes, is.renews.wakes.size.nodes)) (omega (arith, in_slots, is.renews.wakes.size.slots)) ∙ is.renews.wakes.active w y in_nodes in_slots in
     all ∙ elim (cases_Bool (is_active t.frontier w y)) [
       | inl on ↦ or_left (is_active t.frontier w y) (W && not (is_claimed t.frontier w y)) on ∙ sym (or_left (is_active t.frontier w y) R on)
       | inr off ↦ elim (cases_Bool (is_claimed t.frontier w y)) [
         | inl claimed ↦
             let some : (desk_at s t).claimed w y ≡ Some (claim_row t.claims w) = claimed_row s t w y p q claimed in
             let at : y ≡ v = one_slot s (desk_at s t) y v is.ready.sound (w, p, q, λ none. cc) (u, claim.is_node, claim.is_slot, λ none. let mine : (desk_at s t).claimed u v ≡ Some n.row = is.claimed in cc) in
-            ap (λ z. is_active t.frontier w y || (z && not (is_claimed t.frontier w y))) (early s old (place_of x) u (v + 1) o w y (omega arith))
+            ap (λ z. is_active t.frontier w y || (z && not (is_claimed t.frontier w y))) (early s old (place_of t.index) u (v + 1) o w y (omega arith))
             ∙ sym (ap (λ z. is_active t.frontier w y || z) (early_reads s old new u (v + 1) w y (omega arith)))
         | inr free ↦
             let idle : IsIdle (desk_at s t) w y = idle_here s t w y p q off free in
             let other : IsOther u v w y = λ a b.
             let here : (desk_at s t).claimed w y ≡ Some n.row = subst (λ (z : ℕ). (desk_at s t).claimed z y ≡ Some n.row) a (subst (λ (z : ℕ). (desk_at s t).claimed u z ≡ Some n.row) b is.claimed) in
             let none : (desk_at s t).claimed w y ≡ None = idle.1 in cc in
-            let placed : ArePlaced s old (place_of x) w y = λ i l. is.stays w y p other i l ∙ is.ready.index w y p q idle i l in
+            let placed : ArePlaced s old (place_of t.index) w y = λ i l. is.ready.index w y p q idle i l in
             ap (λ z. is_active t.frontier w y || (W && not z)) free
             ∙ (ap (λ z. is_active t.frontier w y || z) (and_not_false W)
-            ∙ ap (λ z. is_active t.frontier w y || z) (wakes_are_readers s old new (place_of x) u (v + 1) o w y sets placed))
+            ∙ ap (λ z. is_active t.frontier w y || z) (wakes_are_readers s old new (place_of t.index) u (v + 1) o w y sets placed))
       ]
     ]
 
@@ -115,51 +107,51 @@ pairs_wake s d e t wake h = record {
   quiet = λ w v x l none. h.quiet w v x l (sym (of_pair s false wake w v x l) ∙ none);
 }
 
-pub commits_desk : (s : Setting) (t : Table) (u v : ℕ) (n : Inputs) (o : Outputs) (x : ReadIndex) (h : Changed) (m f : Frontier) (c : Curves) (k : KeptRows) → CommitsTable s t u v n o x h m f c k →
-    Commits s (desk_at s t) u v n.row (readers s (desk_at s t) (desk_at s (committed t x h f c k)) u v) (desk_at s (committed t x h f c k))
+pub commits_desk : (s : Setting) (t : Table) (u v : ℕ) (n : Inputs) (o : Outputs) (mid end : Table) → CommitsTable s t u v n o mid end →
+    Commits s (desk_at s t) u v n.row (readers s (desk_at s t) (desk_at s (committed t mid end)) u v) (desk_at s (committed t mid end))
 unfolding desk_at
-commits_desk s t u v n o x h m f c k is =
+commits_desk s t u v n o mid end is =
     let d : Desk = desk_at s t in
-    let e : Desk = desk_at s (committed t x h f c k) in
+    let e : Desk = desk_at s (committed t mid end) in
     let claim : IsClaim s d u v n.row = claim_is s t u v n.row is.ready is.claimed in
-    let sets : Sets s d u v n.row e = desk_sets s t u v n o x h m f c k is in
-    let in_nodes : (w : ℕ) → w < s.nodes → w < nodes_in m = λ w p. omega (arith, p, is.ready.fits.frontier.nodes, is.wakes.size.nodes) in
-    let free : is_claimed f u v ≡ false = is.frees.claimed u v (in_nodes u claim.is_node) ∙ (ap (λ z. is_claimed m u v && not z) (pair_test u v) ∙ and_false (is_claimed m u v)) in
+    let sets : Sets s d u v n.row e = desk_sets s t u v n o mid end is in
+    let in_nodes : (w : ℕ) → w < s.nodes → w < nodes_in mid.frontier = λ w p. omega (arith, p, is.ready.fits.frontier.nodes, is.renews.wakes.size.nodes) in
+    let free : is_claimed end.frontier u v ≡ false = is.frees.claimed u v (in_nodes u claim.is_node) ∙ (ap (λ z. is_claimed mid.frontier u v && not z) (pair_test u v) ∙ and_false (is_claimed mid.frontier u v)) in
     record {
       was_claimed = is.claimed;
       sets = sets;
       readers = pairs_wake s d e v (reads_commit s d.counts e.counts u (v + 1)) (is.wake s d e u v n.row is.setting is.ready.sound is.claimed sets);
-      free = claimed_is s (committed t x h f c k) u v claim.is_node claim.is_slot ∙ claim_off (committed t x h f c k) u v free;
-      claimed = λ w y other. same_claim s t (committed t x h f c k) w y (λ p q. claim_same t (committed t x h f c k) w y
-          (is.frees.claimed w y (in_nodes w p) ∙ (ap (λ z. is_claimed m w y && not z) (other_test u v w y other) ∙ (and_not (is_claimed m w y) ∙ is.wakes.claims.pairs w y))) refl);
-      active = λ w y. pairs_or s (is_active f) (is_active t.frontier) (reads_commit s d.counts e.counts u (v + 1)) w y (λ p q. active_readers s t u v n o x h m f c k w y is p q);
+      free = claimed_is s (committed t mid end) u v claim.is_node claim.is_slot ∙ claim_off (committed t mid end) u v free;
+      claimed = λ w y other. same_claim s t (committed t mid end) w y (λ p q. claim_same t (committed t mid end) w y
+          (is.frees.claimed w y (in_nodes w p) ∙ (ap (λ z. is_claimed mid.frontier w y && not z) (other_test u v w y other) ∙ (and_not (is_claimed mid.frontier w y) ∙ is.renews.wakes.claims.pairs w y))) refl);
+      active = λ w y. pairs_or s (is_active end.frontier) (is_active t.frontier) (reads_commit s d.counts e.counts u (v + 1)) w y (λ p q. active_readers s t u v n o mid end w y is p q);
     }
 
-pub commits_ready : (s : Setting) (t : Table) (u v : ℕ) (n : Inputs) (o : Outputs) (x : ReadIndex) (h : Changed) (m f : Frontier) (c : Curves) (k : KeptRows) → CommitsTable s t u v n o x h m f c k →
-    IsReady s (committed t x h f c k)
+pub commits_ready : (s : Setting) (t : Table) (u v : ℕ) (n : Inputs) (o : Outputs) (mid end : Table) → CommitsTable s t u v n o mid end →
+    IsReady s (committed t mid end)
 unfolding desk_at
-commits_ready s t u v n o x h m f c k is =
+commits_ready s t u v n o mid end is =
     let d : Desk = desk_at s t in
-    let e : Desk = desk_at s (committed t x h f c k) in
+    let e : Desk = desk_at s (committed t mid end) in
     let claim : IsClaim s d u v n.row = claim_is s t u v n.row is.ready is.claimed in
-    let sets : Sets s d u v n.row e = desk_sets s t u v n o x h m f c k is in
-    let commits : Commits s d u v n.row (readers s d e u v) e = commits_desk s t u v n o x h m f c k is in
+    let sets : Sets s d u v n.row e = desk_sets s t u v n o mid end is in
+    let commits : Commits s d u v n.row (readers s d e u v) e = commits_desk s t u v n o mid end is in
     let keeps = is.positions s d e u v n.row is.setting is.ready.sound is.claimed sets in
     record {
       fits = record {
-        curves = is.shaped;
-        kept = rows_lie s s.slots is.between k (rows_left s s.slots (any_differs s (counts_of t.curves) u (v + 1) o) t.kept is.between u (v + 1) is.ready.fits.kept is.forgets) is.puts.places is.puts.slots;
+        curves = is.renews.fits.curves;
+        kept = rows_lie s s.slots mid.kept end.kept is.renews.fits.kept is.puts.places is.puts.slots;
         claims = is.ready.fits.claims;
-        frontier = record { nodes = is.frees.size.nodes ∙ (is.wakes.size.nodes ∙ is.ready.fits.frontier.nodes); slots = is.frees.size.slots ∙ (is.wakes.size.slots ∙ is.ready.fits.frontier.slots) };
-        index = is.lists;
-        changed = cells_stay t.changed h (changes s (counts_of t.curves) u (v + 1) o) (groups s) s.slots is.ready.fits.changed is.cells;
+        frontier = record { nodes = is.frees.size.nodes ∙ is.renews.fits.frontier.nodes; slots = is.frees.size.slots ∙ is.renews.fits.frontier.slots };
+        index = is.ready.fits.index;
+        changed = is.renews.fits.changed;
       };
       sound = commit_keeps s d u v n.row (readers s d e u v) e is.setting is.ready.sound commits;
-      index = index_stays_current.commit s d e u v n.row (readers s d e u v) (place_of t.index) (place_of x) commits
+      index = index_stays_current.commit s d e u v n.row (readers s d e u v) (place_of t.index) (place_of t.index) commits
           (record {
-            placed = λ i l. is.placed i l
+            placed = λ i l. is.ready.claims u v claim.is_node claim.is_slot (λ none. let mine : d.claimed u v ≡ Some n.row = is.claimed in cc) i l
                 ∙ sym (keeps u v i claim.is_node claim.is_slot l (early_reads s d.counts e.counts u (v + 1) u v (omega arith)));
-            others = λ w y p q other. is.stays w y p other;
+            others = λ w y p q other i l. refl;
             quiet = λ w y i p q l off. keeps w y i p q l (sym (of_pair s false (reads_commit s d.counts e.counts u (v + 1)) w y p q) ∙ off);
           })
           is.ready.index;
@@ -168,25 +160,24 @@ commits_ready s t u v n o x h m f c k is =
         | inr other ↦
             let was : d.claimed w y ≢ None = λ none. some (commits.claimed w y other ∙ none) in
             let at : y ≡ v = one_slot s d y v is.ready.sound (w, p, q, was) (u, claim.is_node, claim.is_slot, λ none. let mine : d.claimed u v ≡ Some n.row = is.claimed in cc) in
-            λ i l. is.stays w y p other i l
-            ∙ (is.ready.claims w y p q was i l ∙ sym (keeps w y i p q l (early_reads s d.counts e.counts u (v + 1) w y (omega (arith, at)))))
+            λ i l. is.ready.claims w y p q was i l ∙ sym (keeps w y i p q l (early_reads s d.counts e.counts u (v + 1) w y (omega (arith, at))))
       ];
     }
 
-pub commits_cells : (s : Setting) (t : Table) (u v : ℕ) (n : Inputs) (o : Outputs) (x : ReadIndex) (h : Changed) (m f : Frontier) (c : Curves) (k : KeptRows) → CommitsTable s t u v n o x h m f c k → (g b : ℕ) →
-    changed_at s (committed t x h f c k) g b ≡ (changed_at s t g b || rewritten s (desk_at s t) (desk_at s (committed t x h f c k)) g b)
+pub commits_cells : (s : Setting) (t : Table) (u v : ℕ) (n : Inputs) (o : Outputs) (mid end : Table) → CommitsTable s t u v n o mid end → (g b : ℕ) →
+    changed_at s (committed t mid end) g b ≡ (changed_at s t g b || rewritten s (desk_at s t) (desk_at s (committed t mid end)) g b)
 unfolding desk_at changed_at
-commits_cells s t u v n o x h m f c k is g b =
+commits_cells s t u v n o mid end is g b =
     elim (cases_cells s g b) [
       | inl in_range ↦
           let cell : IsCell t.changed g b = record { is_group = omega (arith, in_range.0, is.ready.fits.changed.same_groups); is_boundary = omega (arith, in_range.1, is.ready.fits.changed.same_slots) } in
-          cell_of s (is_changed h) g b in_range.0 in_range.1 ∙ (is.cells.each g b cell
-          ∙ (ap (λ z. is_changed t.changed g b || z) (cells_differ s (counts_of t.curves) (counts_of c) u (v + 1) o g b (counts_set s t u v n o x h m f c k is) in_range.0 in_range.1)
-          ∙ sym (ap (λ z. z || of_cells s (differs_at s (counts_of t.curves) (counts_of c)) g b) (cell_of s (is_changed t.changed) g b in_range.0 in_range.1)
-          ∙ ap (λ z. is_changed t.changed g b || z) (cell_of s (differs_at s (counts_of t.curves) (counts_of c)) g b in_range.0 in_range.1))))
+          cell_of s (is_changed mid.changed) g b in_range.0 in_range.1 ∙ (is.renews.cells.each g b cell
+          ∙ (ap (λ z. is_changed t.changed g b || z) (cells_differ s (counts_of t.curves) (counts_of mid.curves) u (v + 1) o g b (counts_set s t u v n o mid end is) in_range.0 in_range.1)
+          ∙ sym (ap (λ z. z || of_cells s (differs_at s (counts_of t.curves) (counts_of mid.curves)) g b) (cell_of s (is_changed t.changed) g b in_range.0 in_range.1)
+          ∙ ap (λ z. is_changed t.changed g b || z) (cell_of s (differs_at s (counts_of t.curves) (counts_of mid.curves)) g b in_range.0 in_range.1))))
       | inr past ↦
-          no_cell s (is_changed h) g b past
-          ∙ sym (ap (λ z. z || of_cells s (differs_at s (counts_of t.curves) (counts_of c)) g b) (no_cell s (is_changed t.changed) g b past) ∙ no_cell s (differs_at s (counts_of t.curves) (counts_of c)) g b past)
+          no_cell s (is_changed mid.changed) g b past
+          ∙ sym (ap (λ z. z || of_cells s (differs_at s (counts_of t.curves) (counts_of mid.curves)) g b) (no_cell s (is_changed t.changed) g b past) ∙ no_cell s (differs_at s (counts_of t.curves) (counts_of mid.curves)) g b past)
     ]
 
 -- the inputs of a claim are those of its pair

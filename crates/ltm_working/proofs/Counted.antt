@@ -1,7 +1,11 @@
 -- Outputs as the counts at a slot's end.
-use Rattle.std.proofs.Common.{◌≡◌, ℕ, zero, suc, ◌+◌, ◌^◌, ◌<◌, List, [], ◌∷◌, length, slice_index, Fits, w64, refl, ap, sym, ◌∙◌, subst, arith}
-use Rattle.std.proofs.lemmas.List.{ext_get_or}
+use Rattle.std.proofs.Common.{◌≡◌, ℕ, zero, suc, ◌+◌, ◌^◌, ◌<◌, ◌≤◌, List, [], ◌∷◌, length, slice_index, Bool, Fits, w64, refl, ap, sym, ◌∙◌, subst, arith}
+use Rattle.std.specs.Prelude.{take}
+use Rattle.std.proofs.lemmas.List.{ext_get_or, length-take-le}
 use Rattle.ltm_curve.specs.Counts.{Counts}
+use Rattle.ltm_curve.specs.declared.curves.Curves.{Curves}
+use Rattle.ltm_curve.specs.declared.changed.Changed.{Changed}
+use Rattle.ltm_curve.specs.Table.{destinations_of, counts_of, SetsRow}
 use Rattle.ltm_curve.specs.First.{list_below}
 use Rattle.ltm_curve.proofs.Lists.{length-list_below, index-list_below}
 use Rattle.ltm_node.specs.declared.shape.NodeShape.{NodeShape}
@@ -17,7 +21,14 @@ use Rattle.ltm_flows.proofs.Writing.{arm_there, out_there}
 use Rattle.ltm_flows.proofs.Adding.{arm_number, out_number, sink_number}
 use Rattle.ltm_working.specs.declared.step_form.StepForm.{StepForm}
 use Rattle.ltm_working.specs.declared.step_form.StepForm.TheVariants.{Counted, Moved}
+use Rattle.ltm_setting.specs.Setting.{setting_of}
+use Rattle.ltm_working.specs.declared.renewal.Renewal.{Renewal}
+use Rattle.ltm_working.specs.declared.table.Table.{Table}
+use Rattle.ltm_working.specs.Ready.{FitsTable}
+use Rattle.ltm_working.specs.Renewed.{FitsRenewal}
 use Rattle.ltm_working.specs.Counted.{counted_number, counted_row, counts_by_form}
+use Rattle.ltm_working.specs.Waking.{row_differs}
+use Rattle.ltm_working.specs.Rewriting.{row_at_end, FitsRow, RenewsRow}
 use Rattle.ltm_working.proofs.Renewals.{arms_set}
 
 -- ---- the row of a group
@@ -30,31 +41,59 @@ sums_are c g t xs moves long each =
 pub sum_at : (c : Counts) (g t d : ℕ) (moves : List ℕ) → d < length moves → slice_index (counted_row Moved c g t moves) d ≡ c g d t + slice_index moves d
 sum_at c g t d moves l = index-list_below (length moves) (λ e. c g e t + slice_index moves e) d l
 
--- a few numbers and what moves, added one by one
-pub sum_fits : (c : Counts) (g t n a d : ℕ) (before moves : List ℕ) → d < n → length moves ≡ n → ((e : ℕ) → e < n → slice_index before e ≡ c g e t) → ((e : ℕ) → e < length moves → c g e t + slice_index moves e < 2 ^ 31) →
+pub number_at : (given : StepForm) (c : Counts) (g t d : ℕ) (xs : List ℕ) → d < length xs → slice_index (counted_row given c g t xs) d ≡ counted_number given (c g d t) (slice_index xs d)
+number_at Counted c g t d xs l = refl
+number_at Moved c g t d xs l = sum_at c g t d xs l
+
+-- a row that fits a table
+pub fits_row : (given : StepForm) (s : Setting) (x : Table) (g t : ℕ) (xs : List ℕ) → FitsTable s x → g < groups s → t < s.slots → length xs ≡ s.destinations →
+    ((d : ℕ) → d < length xs → slice_index (row_at_end given x.curves g t xs) d < 2 ^ 31) → FitsRow given x.curves x.changed g t xs
+fits_row given s x g t xs fits there l long small = record {
+  group = omega (arith, there, fits.curves.same_groups);
+  slot = omega (arith, l, fits.curves.same_slots);
+  count = long ∙ sym fits.curves.same_destinations;
+  small = λ d m. omega (arith, number_at given (counts_of x.curves) g t d xs m, small d m);
+  cells = record { same_groups = fits.changed.same_groups ∙ sym fits.curves.same_groups; same_slots = fits.changed.same_slots ∙ sym fits.curves.same_slots };
+}
+
+-- a count that was read and what moves fit
+pub sum_fits : (c : Curves) (x : Changed) (g t a d : ℕ) (before moves : List ℕ) → FitsRow Moved c x g t moves → d < length moves → ((e : ℕ) → e < destinations_of c → slice_index before e ≡ counts_of c g e t) →
     a ≡ slice_index before d → Fits w64 (a + slice_index moves d)
-sum_fits c g t n a d before moves l long stands small at = omega (arith, at, stands d l, small d (omega (arith, l, long)))
+sum_fits c x g t a d before moves fits l stands at = omega (arith, at, stands d (omega (arith, l, fits.count)), fits.small d l)
 
-pub sums_small : (c : Counts) (g t n : ℕ) (xs moves : List ℕ) → xs ≡ counted_row Moved c g t moves → n ≡ length moves → ((e : ℕ) → e < length moves → c g e t + slice_index moves e < 2 ^ 31) → (d : ℕ) → d < n → slice_index xs d < 2 ^ 31
-sums_small c g t n xs moves is long small d l =
-    let within : d < length moves = omega (arith, l, long) in
-    omega (arith, ap (λ (z : List ℕ). slice_index z d) is, sum_at c g t d moves within, small d within)
+-- what is written are the counts, where it is what was read and what moves
+pub sums_written : (c : Curves) (x : Changed) (g t n : ℕ) (before moves xs room : List ℕ) → FitsRow Moved c x g t moves → n ≡ length (take (length moves) room) → length moves ≤ length room → length xs ≡ n →
+    ((d : ℕ) → d < length xs → slice_index xs d ≡ slice_index before d + slice_index moves d) → ((e : ℕ) → e < destinations_of c → slice_index before e ≡ counts_of c g e t) → xs ≡ row_at_end Moved c g t moves
+sums_written c x g t n before moves xs room fits wide within long each stands =
+    let same : length xs ≡ length moves = omega (arith, long, wide, length-take-le (length moves) room within) in
+    sums_are (counts_of c) g t xs moves same (λ d l. each d (omega (arith, l, same)) ∙ ap (λ (z : ℕ). z + slice_index moves d) (stands d (omega (arith, l, fits.count))))
 
-each_of_one : (f : ℕ → ℕ) (a : ℕ) → a ≡ f 0 → (d : ℕ) → d < 1 → slice_index (a ∷ []) d ≡ f d
-each_of_one f a first zero l = first
-each_of_one f a first (suc d) l = absurd (omega arith)
+-- what moves may be set where the counts may that it makes
+pub fits_sums : (c : Curves) (x : Changed) (g t : ℕ) (xs moves : List ℕ) → xs ≡ row_at_end Moved c g t moves → FitsRow Moved c x g t moves → FitsRow Counted c x g t xs
+fits_sums c x g t xs moves is fits =
+    let long : length xs ≡ length moves = ap (λ (z : List ℕ). length z) is ∙ length-list_below (length moves) (λ d. counts_of c g d t + slice_index moves d) in
+    record {
+      group = fits.group;
+      slot = fits.slot;
+      count = long ∙ fits.count;
+      small = λ d l.
+          let within : d < length moves = omega (arith, l, long) in
+          omega (arith, ap (λ (z : List ℕ). slice_index z d) is, sum_at (counts_of c) g t d moves within, fits.small d within);
+      cells = fits.cells;
+    }
 
-each_of_two : (f : ℕ → ℕ) (a b : ℕ) → a ≡ f 0 → b ≡ f 1 → (d : ℕ) → d < 2 → slice_index (a ∷ b ∷ []) d ≡ f d
-each_of_two f a b first second zero l = first
-each_of_two f a b first second (suc zero) l = second
-each_of_two f a b first second (suc (suc d)) l = absurd (omega arith)
+-- and is set by them
+pub renews_sums : (c d : Curves) (x y : Changed) (g t : ℕ) (xs moves : List ℕ) (any : Bool) → xs ≡ row_at_end Moved c g t moves → RenewsRow Counted c x g t xs any d y → RenewsRow Moved c x g t moves any d y
+renews_sums c d x y g t xs moves any is renews = record {
+  value = renews.value ∙ ap (λ (z : List ℕ). row_differs (destinations_of c) (counts_of c) g (t + 1) (slice_index z)) is;
+  sets = subst (λ (z : List ℕ). SetsRow c d g (t + 1) z) is renews.sets;
+  cells = renews.cells;
+}
 
-each_of_four : (f : ℕ → ℕ) (a b x y : ℕ) → a ≡ f 0 → b ≡ f 1 → x ≡ f 2 → y ≡ f 3 → (d : ℕ) → d < 4 → slice_index (a ∷ b ∷ x ∷ y ∷ []) d ≡ f d
-each_of_four f a b x y first second third fourth zero l = first
-each_of_four f a b x y first second third fourth (suc zero) l = second
-each_of_four f a b x y first second third fourth (suc (suc zero)) l = third
-each_of_four f a b x y first second third fourth (suc (suc (suc zero))) l = fourth
-each_of_four f a b x y first second third fourth (suc (suc (suc (suc d)))) l = absurd (omega arith)
+-- a row is told number by number
+each_of : (f : ℕ → ℕ) (a : ℕ) (xs : List ℕ) → a ≡ f 0 → ((d : ℕ) → d < length xs → slice_index xs d ≡ f (suc d)) → (d : ℕ) → d < length xs + 1 → slice_index (a ∷ xs) d ≡ f d
+each_of f a xs first rest zero l = first
+each_of f a xs first rest (suc d) l = rest d (omega (arith, l))
 
 -- a count that was read and what moves
 read_sum : (c : Counts) (g t n a d : ℕ) (before moves : List ℕ) → d < n → ((e : ℕ) → e < n → slice_index before e ≡ c g e t) → a ≡ slice_index before d → a + slice_index moves d ≡ c g d t + slice_index moves d
@@ -64,23 +103,24 @@ pub one_sum : (c : Counts) (g t n a : ℕ) (before moves : List ℕ) → length 
     (a + slice_index moves 0) ∷ [] ≡ counted_row Moved c g t moves
 one_sum c g t n a before moves long wide stands first =
     sums_are c g t ((a + slice_index moves 0) ∷ []) moves (sym long)
-    (λ d l. each_of_one (λ e. c g e t + slice_index moves e) (a + slice_index moves 0) (read_sum c g t n a 0 before moves (omega (arith, long, wide)) stands first) d (omega (arith, l, long)))
+    (λ d l. each_of (λ e. c g e t + slice_index moves e) _ [] (read_sum c g t n a 0 before moves (omega (arith, long, wide)) stands first) (λ e m. absurd (omega (arith, m))) d (omega (arith, l, long)))
 
 pub two_sums : (c : Counts) (g t n a b : ℕ) (before moves : List ℕ) → length moves ≡ 2 → length moves ≡ n → ((e : ℕ) → e < n → slice_index before e ≡ c g e t) → a ≡ slice_index before 0 → b ≡ slice_index before 1 →
     (a + slice_index moves 0) ∷ (b + slice_index moves 1) ∷ [] ≡ counted_row Moved c g t moves
 two_sums c g t n a b before moves long wide stands first second =
     sums_are c g t ((a + slice_index moves 0) ∷ (b + slice_index moves 1) ∷ []) moves (sym long)
-    (λ d l. each_of_two (λ e. c g e t + slice_index moves e) (a + slice_index moves 0) (b + slice_index moves 1) (read_sum c g t n a 0 before moves (omega (arith, long, wide)) stands first)
-    (read_sum c g t n b 1 before moves (omega (arith, long, wide)) stands second) d (omega (arith, l, long)))
+    (λ d l. each_of (λ e. c g e t + slice_index moves e) _ ((b + slice_index moves 1) ∷ []) (read_sum c g t n a 0 before moves (omega (arith, long, wide)) stands first)
+    (each_of (λ e. c g (suc e) t + slice_index moves (suc e)) _ [] (read_sum c g t n b 1 before moves (omega (arith, long, wide)) stands second) (λ e m. absurd (omega (arith, m)))) d (omega (arith, l, long)))
 
 pub four_sums : (c : Counts) (g t n a b x y : ℕ) (before moves : List ℕ) → length moves ≡ 4 → length moves ≡ n → ((e : ℕ) → e < n → slice_index before e ≡ c g e t) →
     a ≡ slice_index before 0 → b ≡ slice_index before 1 → x ≡ slice_index before 2 → y ≡ slice_index before 3 →
     (a + slice_index moves 0) ∷ (b + slice_index moves 1) ∷ (x + slice_index moves 2) ∷ (y + slice_index moves 3) ∷ [] ≡ counted_row Moved c g t moves
 four_sums c g t n a b x y before moves long wide stands first second third fourth =
     sums_are c g t ((a + slice_index moves 0) ∷ (b + slice_index moves 1) ∷ (x + slice_index moves 2) ∷ (y + slice_index moves 3) ∷ []) moves (sym long)
-    (λ d l. each_of_four (λ e. c g e t + slice_index moves e) (a + slice_index moves 0) (b + slice_index moves 1) (x + slice_index moves 2) (y + slice_index moves 3)
-    (read_sum c g t n a 0 before moves (omega (arith, long, wide)) stands first) (read_sum c g t n b 1 before moves (omega (arith, long, wide)) stands second)
-    (read_sum c g t n x 2 before moves (omega (arith, long, wide)) stands third) (read_sum c g t n y 3 before moves (omega (arith, long, wide)) stands fourth) d (omega (arith, l, long)))
+    (λ d l. each_of (λ e. c g e t + slice_index moves e) _ ((b + slice_index moves 1) ∷ (x + slice_index moves 2) ∷ (y + slice_index moves 3) ∷ []) (read_sum c g t n a 0 before moves (omega (arith, long, wide)) stands first)
+    (each_of (λ e. c g (suc e) t + slice_index moves (suc e)) _ ((x + slice_index moves 2) ∷ (y + slice_index moves 3) ∷ []) (read_sum c g t n b 1 before moves (omega (arith, long, wide)) stands second)
+    (each_of (λ e. c g (suc (suc e)) t + slice_index moves (suc (suc e))) _ ((y + slice_index moves 3) ∷ []) (read_sum c g t n x 2 before moves (omega (arith, long, wide)) stands third)
+    (each_of (λ e. c g (suc (suc (suc e))) t + slice_index moves (suc (suc (suc e)))) _ [] (read_sum c g t n y 3 before moves (omega (arith, long, wide)) stands fourth) (λ e m. absurd (omega (arith, m)))))) d (omega (arith, l, long)))
 
 arm_counted : (given : StepForm) (s : Setting) (old now : Counts) (u t n g d : ℕ) (o : Outputs) (xs : List ℕ) → o.shape ≡ shape_at s u → n < arms_of s u → d < s.destinations → g ≡ arm_group s u n → d < length xs →
     now g d t ≡ old g d t → slice_index xs d ≡ left_after o n d → slice_index (counted_row given now g t xs) d ≡ left_after (counts_by_form given s old u t o) n d
@@ -95,7 +135,7 @@ out_counted Moved s old now u t n g d o xs shape l m at x still is =
     sum_at now g t d xs x ∙ (omega (arith, still, is, ap (λ (z : ℕ). old z d t) at) ∙ out_number s old u t o n d shape l m)
 
 -- no count at the slot's beginning changes
-abbrev Stays : Setting → ℕ → Counts → Counts → Type 0
+abbrev pub Stays : Setting → ℕ → Counts → Counts → Type 0
 Stays s t old now = (g d : ℕ) → g < groups s → d < s.destinations → now g d t ≡ old g d t
 
 -- the group of an arm
@@ -143,6 +183,18 @@ counted_still Moved s old now u t o is x still =
 pub small_still : (given : StepForm) (s : Setting) (old now : Counts) (u t : ℕ) (o : Outputs) → IsSetting s → u < s.nodes → Stays s t old now → ((i : ℕ) → slice_index (counts_by_form given s old u t o).row i < 2 ^ 31) →
     (i : ℕ) → slice_index (counts_by_form given s now u t o).row i < 2 ^ 31
 small_still given s old now u t o is x still small i = subst (λ (z : Outputs). slice_index z.row i < 2 ^ 31) (sym (counted_still given s old now u t o is x still)) (small i)
+
+-- a renewal fits on where no count at the slot's beginning changes
+pub fits_still : (r : Renewal) (old new : Table) → IsSetting (setting_of r.scenario.now) → FitsRenewal r old → FitsTable (setting_of r.scenario.now) new → Stays (setting_of r.scenario.now) r.pair.slot (counts_of old.curves) (counts_of new.curves) →
+    FitsRenewal r new
+fits_still r old new is fits table still = record {
+  fits = table;
+  node = fits.node;
+  slot = fits.slot;
+  outputs = fits.outputs;
+  small = small_still r.given (setting_of r.scenario.now) (counts_of old.curves) (counts_of new.curves) r.pair.node.0 r.pair.slot r.outputs.now is fits.node still fits.small;
+  no_sink = fits.no_sink;
+}
 
 -- ---- the origin after the in-links
 pub arms_counted : (given : StepForm) (s : Setting) (u t : ℕ) (o : Outputs) (old tails arms : Counts) → IsSetting s → u < s.nodes → t < s.slots →

@@ -7,6 +7,7 @@ pub mod Listing
 pub mod Wakings
 pub mod Renewals
 pub mod Counted
+pub mod Parts
 pub mod Reading
 pub mod Keeping
 pub mod Desks

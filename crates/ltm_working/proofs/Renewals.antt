@@ -1,5 +1,5 @@
 -- The counts of a pair are set group after group, and what is compared later is told of the counts before.
-use Rattle.std.proofs.Common.{◌≡◌, ◌≢◌, ℕ, ◌+◌, ◌-◌, ◌<◌, ◌≤◌, ◌==◌, ◌&&◌, ◌||◌, not, List, slice_index, refl, ap, sym, ◌∙◌, subst, arith, inl, inr}
+use Rattle.std.proofs.Common.{◌≡◌, ◌≢◌, ℕ, ◌+◌, ◌-◌, ◌<◌, ◌≤◌, ◌==◌, ◌&&◌, ◌||◌, not, Bool, true, false, List, slice_index, refl, ap, sym, ◌∙◌, subst, arith, inl, inr}
 use Rattle.std.specs.Prelude.{Option, Some, None}
 use Rattle.std.proofs.lemmas.Bool.{cases_lt, cases_eq}
 use Rattle.ltm_units.specs.Sums.{sum_below}
@@ -7,6 +7,7 @@ use Rattle.ltm_units.proofs.Sums.{sum_below-same}
 use Rattle.ltm_curve.specs.Counts.{Counts, total}
 use Rattle.ltm_curve.specs.declared.curves.Curves.{Curves}
 use Rattle.ltm_curve.specs.declared.changed.Changed.{Changed}
+use Rattle.ltm_curve.specs.Cells.{HasCells}
 use Rattle.ltm_curve.specs.Table.{counts_of, destinations_of, SetsRow}
 use Rattle.ltm_node.specs.Outputs.{Outputs, left_after, entered_after}
 use Rattle.ltm_loading.specs.Setting.{Setting, IsSetting}
@@ -16,10 +17,19 @@ use Rattle.ltm_loading.proofs.Same.{last_within-same}
 use Rattle.ltm_flows.specs.Applying.{out_group, SetsGroups}
 use Rattle.ltm_loading.specs.Shaped.{IsShaped}
 use Rattle.ltm_flows.proofs.Writing.{arm_there, arm_apart, out_there, arm_not_out, arm_not_come}
-use Rattle.ltm_frontier.specs.Frontier.{is_pair}
+use Rattle.ltm_frontier.specs.declared.frontier.Frontier.{Frontier}
+use Rattle.ltm_frontier.specs.Frontier.{is_pair, Activates}
 use Rattle.ltm_pairs.specs.Changes.{some_below}
-use Rattle.ltm_working.specs.Waking.{row_differs, out_differs, sink_differs, PutsCells, changes_outs, wakes_later, wakes_listed, wakes_head, wakes_heads}
-use Rattle.ltm_working.proofs.Bools.{same_below}
+use Rattle.ltm_working.specs.declared.table.Table.{Table}
+use Rattle.ltm_working.specs.Ready.{HasPairs, FitsTable}
+use Rattle.ltm_working.specs.Desks.{place_of}
+use Rattle.ltm_rows.specs.declared.rows.KeptRows.{KeptRows}
+use Rattle.ltm_rows.specs.Rows.{ForgetsRow, HasRows}
+use Rattle.ltm_working.specs.Renewed.{SameButCounts, RenewsNode, RenewsPair}
+use Rattle.ltm_working.specs.Waking.{row_differs, out_differs, sink_differs, PutsCells, changes_outs, wakes_later, wakes_listed, wakes_head, wakes_heads, wakes_others, wakes, any_differs, ForgetsIf}
+use Rattle.ltm_working.proofs.Bools.{same_below, or_false}
+use Rattle.ltm_working.proofs.Activating.{act_as, act_both}
+use Rattle.ltm_working.proofs.Keeping.{rows_left, forgets_on, forgets_off}
 use Rattle.ltm_working.proofs.Noting.{puts_as}
 use Rattle.ltm_working.proofs.Wakings.{arm_origin}
 
@@ -128,3 +138,46 @@ sink_unset s u k o old arms outs x is node first next = sink_like s outs old (s.
     let inside : d < s.destinations = is.network.own_is_destination u d node own in
     next.others (arr_of s) d there inside (λ j l e. omega (arith, e, is.network.out_link_is_link u j node l))
     ∙ first.others (arr_of s) d there inside (λ i l e. arm_not_come s u i is node l (sym e)))
+
+-- ---- the table in which they are set
+pub pairs_stay : (s : Setting) (old new : Frontier) (woken : ℕ → ℕ → Bool) → HasPairs s old → Activates old new woken → HasPairs s new
+pairs_stay s old new woken pairs wakes = record { nodes = wakes.size.nodes ∙ pairs.nodes; slots = wakes.size.slots ∙ pairs.slots }
+
+pub fits_with : (s : Setting) (t : Table) (c : Curves) (x : Changed) (f : Frontier) (k : KeptRows) → FitsTable s t → IsShaped s c → HasCells x (groups s) s.slots → HasPairs s f → HasRows s s.slots k →
+    FitsTable s (record t { curves = c; changed = x; frontier = f; kept = k })
+fits_with s t c x f k fits shaped cells pairs rows = record { curves = shaped; kept = rows; claims = fits.claims; frontier = pairs; index = fits.index; changed = cells }
+
+pub same_but_counts : (a b c : Table) → SameButCounts a b → SameButCounts b c → SameButCounts a c
+same_but_counts a b c first next = next ∙ ap (λ (z : Table). record z { curves = c.curves; changed = c.changed; frontier = c.frontier }) first
+
+-- no count of the node was another one, so its next slot does not wake
+pub pair_quiet : (s : Setting) (u k : ℕ) (o : Outputs) (old new : Table) (any : Bool) → RenewsNode s u k o old any new → any ≡ false → RenewsPair s u k o old new
+pair_quiet s u k o old new any node none =
+    let off : any_differs s (counts_of old.curves) u k o ≡ false = sym node.value ∙ none in
+    let others : ℕ → ℕ → Bool = wakes_others s (counts_of old.curves) (place_of old.index) u k o in
+    record {
+      fits = node.fits;
+      same = node.same ∙ ap (λ (z : KeptRows). record old { curves = new.curves; changed = new.changed; frontier = new.frontier; kept = z }) (sym (ap (λ (z : Table). z.kept) node.same));
+      applies = node.applies;
+      cells = node.cells;
+      wakes = act_as old.frontier new.frontier others (wakes s (counts_of old.curves) (place_of old.index) u k o) node.wakes
+          (λ w v x y. sym (ap (λ z. others w v || (z && is_pair u k w v)) off ∙ or_false (others w v)));
+      kept = subst (λ (z : KeptRows). ForgetsIf (any_differs s (counts_of old.curves) u k o) old.kept z u k) (sym (ap (λ (z : Table). z.kept) node.same)) (forgets_off _ old.kept u k off);
+    }
+
+-- some was, and it wakes
+pub pair_woken : (s : Setting) (u k : ℕ) (o : Outputs) (old mid : Table) (any : Bool) (f : Frontier) (r : KeptRows) → RenewsNode s u k o old any mid → any ≡ true → Activates mid.frontier f (is_pair u k) → ForgetsRow mid.kept r u k →
+    RenewsPair s u k o old (record mid { frontier = f; kept = r })
+pair_woken s u k o old mid any f r node some wakes_next forgets =
+    let on : any_differs s (counts_of old.curves) u k o ≡ true = sym node.value ∙ some in
+    let others : ℕ → ℕ → Bool = wakes_others s (counts_of old.curves) (place_of old.index) u k o in
+    record {
+      fits = fits_with s mid mid.curves mid.changed f r node.fits node.fits.curves node.fits.changed (pairs_stay s mid.frontier f _ node.fits.frontier wakes_next) (rows_left s s.slots true mid.kept r u k node.fits.kept forgets);
+      same = ap (λ (z : Table). record z { frontier = f; kept = r }) node.same;
+      applies = node.applies;
+      cells = node.cells;
+      wakes = act_as old.frontier f (λ w v. others w v || is_pair u k w v) (wakes s (counts_of old.curves) (place_of old.index) u k o)
+          (act_both old.frontier mid.frontier f others (is_pair u k) node.wakes wakes_next)
+          (λ w v x y. sym (ap (λ z. others w v || (z && is_pair u k w v)) on));
+      kept = subst (λ (z : KeptRows). ForgetsIf (any_differs s (counts_of old.curves) u k o) z r u k) (ap (λ (z : Table). z.kept) node.same) (forgets_on _ mid.kept r u k on forgets);
+    }

@@ -66,11 +66,6 @@ pub claimed_found : (s : Setting) (t : Table) (u v : ℕ) (n : Inputs) (f : Fron
 claimed_found s t u v n f ready found step =
     step.claimed u v (omega (arith, found.work.work.is_node, ready.fits.frontier.nodes)) ∙ or_right (is_claimed t.frontier u v) (is_pair u v u v) (pair_test u v)
 
--- its positions stand in the index still
-pub found_placed : (s : Setting) (t : Table) (u v : ℕ) (n : Inputs) (f : Frontier) (k : ClaimRows) → IsFound s t u v n → IsPlaced s (desk_at s (record t { frontier = f; claims = k })) (place_of t.index) u v
-unfolding desk_at
-found_placed s t u v n f k found = found.placed
-
 pub takes_desk : (s : Setting) (t : Table) (u v : ℕ) (n : Inputs) (f : Frontier) (k : ClaimRows) → IsReady s t → IsFound s t u v n → ClaimsPair t.frontier f u v → WritesClaim t.claims k u (pair_row s (counts_of t.curves) u v) →
     TakesClaim s (desk_at s t) u v (pair_row s (counts_of t.curves) u v) (desk_at s (record t { frontier = f; claims = k }))
 unfolding desk_at

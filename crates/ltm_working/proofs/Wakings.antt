@@ -1,18 +1,16 @@
 -- What wakes, arm after arm.
-use Rattle.std.proofs.Common.{◌≡◌, ℕ, ◌+◌, ◌<◌, ◌==◌, ◌&&◌, ◌||◌, not, Bool, false, List, slice_index, refl, ap, sym, ◌∙◌, arith, inl, inr}
+use Rattle.std.proofs.Common.{◌≡◌, ℕ, ◌+◌, ◌<◌, ◌==◌, ◌&&◌, ◌||◌, not, Bool, false, refl, ap, sym, ◌∙◌, arith, inl, inr}
 use Rattle.std.proofs.lemmas.Bool.{cases_lt, lt-ltb, le-ltb}
-use Rattle.ltm_units.specs.Sums.{sum_below}
-use Rattle.ltm_units.proofs.Sums.{sum_below-same}
 use Rattle.ltm_curve.specs.Counts.{Counts}
 use Rattle.ltm_curve.specs.declared.changed.Changed.{Changed}
-use Rattle.ltm_node.specs.Outputs.{Outputs, left_after, entered_after, arrived_after}
+use Rattle.ltm_node.specs.Outputs.{Outputs, arrived_after}
 use Rattle.ltm_loading.specs.Setting.{Setting}
-use Rattle.ltm_loading.specs.Groups.{up_of, down_of, dep_of, arr_of}
+use Rattle.ltm_loading.specs.Groups.{down_of, dep_of, arr_of}
 use Rattle.ltm_loading.specs.Pairs.{arms_of, arm_group}
 use Rattle.ltm_frontier.specs.declared.frontier.Frontier.{Frontier}
 use Rattle.ltm_frontier.specs.Frontier.{Activates, is_pair}
 use Rattle.ltm_pairs.specs.Changes.{some_below}
-use Rattle.ltm_working.specs.Waking.{row_differs, arm_differs, out_differs, sink_differs, any_differs, PutsCells, changes_arms, changes_outs, changes, wakes_tail, wakes_head, wakes_tails, wakes_heads}
+use Rattle.ltm_working.specs.Waking.{row_differs, arm_differs, out_differs, sink_differs, any_differs, PutsCells, changes_arms, changes_outs, changes}
 use Rattle.ltm_working.proofs.Bools.{same_below, one_more, or_false, or_three}
 use Rattle.ltm_working.proofs.Noting.{puts_next, puts_as, puts_both}
 use Rattle.ltm_working.proofs.Activating.{act_next}
@@ -28,68 +26,20 @@ arm_in s u n l = rw (lt-ltb n (s.ins u) l) refl
 pub arm_origin : (s : Setting) (u : ℕ) → arm_group s u (s.ins u) ≡ dep_of s u
 arm_origin s u = rw (le-ltb (s.ins u) (s.ins u) (omega arith)) refl
 
--- ---- the tails of the in-links
--- the link at a place, and what is to have left it
-pub record IsArm (s : Setting) (c : Counts) (u k : ℕ) (o : Outputs) (n l : ℕ) (counts : List ℕ) (woken : Bool) : Type 0 where
-  pub place : n < s.ins u
-  pub link : s.in_link u n ≡ l
-  pub numbers : (d : ℕ) → d < s.destinations → slice_index counts d ≡ left_after o n d
-  pub value : woken ≡ row_differs s.destinations c (down_of l) k (slice_index counts)
+-- ---- a place more
+pub value_more : (n : ℕ) (f : ℕ → Bool) (any last : Bool) → last ≡ f n → any ≡ some_below n f → (any || last) ≡ some_below (n + 1) f
+value_more n f any last is before = ap (λ z. z || last) before ∙ (ap (λ z. some_below n f || z) is ∙ sym (one_more n f))
 
-arm_value : (s : Setting) (c : Counts) (u k : ℕ) (o : Outputs) (n l : ℕ) (counts : List ℕ) (woken : Bool) → IsArm s c u k o n l counts woken → woken ≡ arm_differs s c u k o n
-arm_value s c u k o n l counts woken arm =
-    arm.value ∙ row_same s.destinations c (down_of l) (arm_group s u n) k (slice_index counts) (left_after o n) (ap down_of (sym arm.link) ∙ sym (arm_in s u n arm.place)) arm.numbers
+pub cells_more : (n : ℕ) (f : ℕ → Bool) (group : ℕ → ℕ) (k g : ℕ) (last : Bool) (x y z : Changed) → last ≡ f n → g ≡ group n →
+    PutsCells x y (λ h b. some_below n (λ i. f i && is_pair (group i) k h b)) → PutsCells y z (λ h b. last && is_pair g k h b) → PutsCells x z (λ h b. some_below (n + 1) (λ i. f i && is_pair (group i) k h b))
+cells_more n f group k g last x y z is at first next =
+    puts_next x y z n (λ h b i. f i && is_pair (group i) k h b) (λ h b. last && is_pair g k h b) first next
+    (λ h b. ap (λ t. t && is_pair g k h b) is ∙ ap (λ (t : ℕ). f n && is_pair t k h b) at)
 
-pub arms_value : (s : Setting) (c : Counts) (u k : ℕ) (o : Outputs) (n l : ℕ) (counts : List ℕ) (any woken : Bool) → IsArm s c u k o n l counts woken →
-    any ≡ some_below n (arm_differs s c u k o) → (any || woken) ≡ some_below (n + 1) (arm_differs s c u k o)
-arms_value s c u k o n l counts any woken arm before =
-    ap (λ z. z || woken) before ∙ (ap (λ z. some_below n (arm_differs s c u k o) || z) (arm_value s c u k o n l counts woken arm) ∙ sym (one_more n (arm_differs s c u k o)))
-
-pub arms_cells : (s : Setting) (c : Counts) (u k : ℕ) (o : Outputs) (n l : ℕ) (counts : List ℕ) (woken : Bool) (x y z : Changed) → IsArm s c u k o n l counts woken →
-    PutsCells x y (changes_arms s c u k o n) → PutsCells y z (λ g b. woken && is_pair (down_of l) k g b) → PutsCells x z (changes_arms s c u k o (n + 1))
-arms_cells s c u k o n l counts woken x y z arm first next =
-    puts_next x y z n (λ g b i. arm_differs s c u k o i && is_pair (arm_group s u i) k g b) (λ g b. woken && is_pair (down_of l) k g b) first next
-    (λ g b. ap (λ t. t && is_pair (down_of l) k g b) (arm_value s c u k o n l counts woken arm)
-    ∙ ap (λ (t : ℕ). arm_differs s c u k o n && is_pair t k g b) (ap down_of (sym arm.link) ∙ sym (arm_in s u n arm.place)))
-
-pub arms_wake : (s : Setting) (c : Counts) (u k : ℕ) (o : Outputs) (n l : ℕ) (counts : List ℕ) (woken : Bool) (x y z : Frontier) → IsArm s c u k o n l counts woken →
-    Activates x y (wakes_tails s c u k o n) → Activates y z (λ w v. woken && wakes_tail s l k w v) → Activates x z (wakes_tails s c u k o (n + 1))
-arms_wake s c u k o n l counts woken x y z arm first next =
-    act_next x y z n (λ w v i. arm_differs s c u k o i && wakes_tail s (s.in_link u i) k w v) (λ w v. woken && wakes_tail s l k w v) first next
-    (λ w v. ap (λ t. t && wakes_tail s l k w v) (arm_value s c u k o n l counts woken arm)
-    ∙ ap (λ (t : ℕ). arm_differs s c u k o n && wakes_tail s t k w v) (sym arm.link))
-
--- ---- the heads of the out-links
-pub record IsOut (s : Setting) (c : Counts) (u k : ℕ) (o : Outputs) (n l : ℕ) (counts : List ℕ) (woken : Bool) : Type 0 where
-  pub place : n < s.outs u
-  pub link : s.out_link u n ≡ l
-  pub numbers : (d : ℕ) → d < s.destinations → slice_index counts d ≡ entered_after o n d
-  pub value : woken ≡ row_differs s.destinations c (up_of l) k (slice_index counts)
-
-out_value : (s : Setting) (c : Counts) (u k : ℕ) (o : Outputs) (n l : ℕ) (counts : List ℕ) (woken : Bool) → IsOut s c u k o n l counts woken → woken ≡ out_differs s c u k o n
-out_value s c u k o n l counts woken out =
-    out.value ∙ row_same s.destinations c (up_of l) (up_of (s.out_link u n)) k (slice_index counts) (entered_after o n) (ap up_of (sym out.link)) out.numbers
-
-pub outs_value : (s : Setting) (c : Counts) (u k : ℕ) (o : Outputs) (n l : ℕ) (counts : List ℕ) (any woken : Bool) → IsOut s c u k o n l counts woken →
-    any ≡ some_below n (out_differs s c u k o) → (any || woken) ≡ some_below (n + 1) (out_differs s c u k o)
-outs_value s c u k o n l counts any woken out before =
-    ap (λ z. z || woken) before ∙ (ap (λ z. some_below n (out_differs s c u k o) || z) (out_value s c u k o n l counts woken out) ∙ sym (one_more n (out_differs s c u k o)))
-
-pub outs_cells : (s : Setting) (c : Counts) (u k : ℕ) (o : Outputs) (n l : ℕ) (counts : List ℕ) (woken : Bool) (x y z : Changed) → IsOut s c u k o n l counts woken →
-    PutsCells x y (changes_outs s c u k o n) → PutsCells y z (λ g b. woken && is_pair (up_of l) k g b) → PutsCells x z (changes_outs s c u k o (n + 1))
-outs_cells s c u k o n l counts woken x y z out first next =
-    puts_next x y z n (λ g b i. out_differs s c u k o i && is_pair (up_of (s.out_link u i)) k g b) (λ g b. woken && is_pair (up_of l) k g b) first next
-    (λ g b. ap (λ t. t && is_pair (up_of l) k g b) (out_value s c u k o n l counts woken out)
-    ∙ ap (λ (t : ℕ). out_differs s c u k o n && is_pair (up_of t) k g b) (sym out.link))
-
-pub outs_wake : (s : Setting) (c : Counts) (places : ℕ → ℕ → ℕ) (u k : ℕ) (o : Outputs) (n l : ℕ) (counts : List ℕ) (woken : Bool) (x y z : Frontier) → IsOut s c u k o n l counts woken →
-    Activates x y (wakes_heads s c places u k o n) → Activates y z (λ w v. woken && wakes_head s c places l k (sum_below s.destinations (slice_index counts)) w v) → Activates x z (wakes_heads s c places u k o (n + 1))
-outs_wake s c places u k o n l counts woken x y z out first next =
-    act_next x y z n (λ w v i. out_differs s c u k o i && wakes_head s c places (s.out_link u i) k (sum_below s.destinations (entered_after o i)) w v)
-    (λ w v. woken && wakes_head s c places l k (sum_below s.destinations (slice_index counts)) w v) first next
-    (λ w v. ap (λ t. t && wakes_head s c places l k (sum_below s.destinations (slice_index counts)) w v) (out_value s c u k o n l counts woken out)
-    ∙ (ap (λ (t : ℕ). out_differs s c u k o n && wakes_head s c places l k t w v) (sum_below-same s.destinations (slice_index counts) (entered_after o n) out.numbers)
-    ∙ ap (λ (t : ℕ). out_differs s c u k o n && wakes_head s c places t k (sum_below s.destinations (entered_after o n)) w v) (sym out.link)))
+pub wakes_more : (n : ℕ) (f : ℕ → Bool) (wake : ℕ → ℕ → ℕ → Bool) (here : ℕ → ℕ → Bool) (last : Bool) (x y z : Frontier) → last ≡ f n → ((w v : ℕ) → here w v ≡ wake n w v) →
+    Activates x y (λ w v. some_below n (λ i. f i && wake i w v)) → Activates y z (λ w v. last && here w v) → Activates x z (λ w v. some_below (n + 1) (λ i. f i && wake i w v))
+wakes_more n f wake here last x y z is at first next =
+    act_next x y z n (λ w v i. f i && wake i w v) (λ w v. last && here w v) first next (λ w v. ap (λ t. t && here w v) is ∙ ap (λ t. f n && t) (at w v))
 
 -- ---- all of them
 -- the origin is the last arm of a node with out-links

@@ -4,6 +4,7 @@ use Rattle.ltm_curve.specs.Counts.{Counts}
 use Rattle.ltm_curve.specs.First.{list_below}
 use Rattle.ltm_node.specs.Outputs.{Outputs}
 use Rattle.ltm_loading.specs.Setting.{Setting}
+use Rattle.ltm_loading.specs.Pairs.{arrived_by}
 use Rattle.ltm_loading.specs.Uncounted.{moved_on, outputs_at}
 use Rattle.ltm_working.specs.declared.step_form.StepForm.{StepForm}
 use Rattle.ltm_working.specs.declared.step_form.StepForm.TheVariants.{Counted, Moved}
@@ -12,6 +13,10 @@ use Rattle.ltm_working.specs.declared.step_form.StepForm.TheVariants.{Counted, M
 abbrev pub counted_number : StepForm → ℕ → ℕ → ℕ
 counted_number Counted before number = number
 counted_number Moved before number = before + number
+
+-- what has arrived at a node
+abbrev pub counted_arrivals : StepForm → Setting → Counts → ℕ → ℕ → ℕ → ℕ
+counted_arrivals given s c u t number = counted_number given (arrived_by s c (s.own u) t) number
 
 -- the counts of a group
 abbrev pub counted_row : StepForm → Counts → ℕ → ℕ → List ℕ → List ℕ

@@ -8,8 +8,9 @@ pub mod Searching
 pub mod Placing
 pub mod Openings
 pub mod Counted
-pub mod Renewed
 pub mod Waking
+pub mod Rewriting
+pub mod Renewed
 pub mod Committing
 pub mod Recomputing
 pub mod Batches

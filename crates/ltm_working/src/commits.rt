@@ -7,13 +7,11 @@ ghost use Rattle.ltm_setting.specs.Places.{node_shape};
 ghost use Rattle.ltm_working.specs.Scenarios.{IsReadyFor, changed_for, desk_for};
 
 use crate::renewal::Renewal;
-use crate::renewing::renew_pair;
 use crate::step_form::StepForm;
 use crate::table::Table;
 use ltm_loading::{counts_by_place, in_range, inputs_by_place, outputs_small};
 use ltm_node::{Solved, no_arrivals, same_shape};
 use ltm_pairs::readers_wake;
-use ltm_rows::parts_of;
 use ltm_scenario::Scenario;
 use ltm_setting::{is_setting, slot_count};
 use ltm_units::Pair;
@@ -53,17 +51,6 @@ impl Table {
             given: StepForm::Counted,
             outputs,
         };
-        renew_pair(
-            renewal,
-            &mut self.curves,
-            &self.index,
-            &mut self.changed,
-            &mut self.frontier,
-            &mut self.kept,
-        );
-        let parts = parts_of(solved.inputs());
-        self.kept
-            .put(pair.node.0 as usize, pair.slot as usize, parts);
-        self.frontier.release(pair);
+        self.settle(renewal, solved.inputs());
     }
 }

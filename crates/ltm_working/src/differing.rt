@@ -4,16 +4,16 @@
 //! and what has moved, which are nowhere written but where they are set. Of one, two and four numbers, as with so many
 //! destinations, they are made without a loop.
 ghost use Rattle.std.specs.Prelude.{◌≡◌, ◌==◌, ◌&&◌, ◌+◌, ◌<◌, ◌≤◌, ◌^◌, ℕ, length, slice_index, None};
-ghost use Rattle.ltm_curve.specs.Table.{groups_of, destinations_of, slots_of, counts_of, SetsRow};
+ghost use Rattle.ltm_curve.specs.Table.{counts_of};
 ghost use Rattle.ltm_curve.specs.Cells.{HasCells};
 ghost use Rattle.ltm_loading.specs.Groups.{arr_of, groups};
-ghost use Rattle.ltm_loading.specs.Pairs.{arrived_by};
 ghost use Rattle.ltm_setting.specs.Setting.{setting_of};
 ghost use Rattle.ltm_flows.specs.Applying.{SetsSink};
 ghost use Rattle.ltm_frontier.specs.Frontier.{is_pair};
-ghost use Rattle.ltm_working.specs.declared.step_form.StepForm.TheVariants.{Moved};
-ghost use Rattle.ltm_working.specs.Counted.{counted_number, counted_row};
-ghost use Rattle.ltm_working.specs.Waking.{row_differs, sink_differs, PutsCells};
+ghost use Rattle.ltm_working.specs.declared.step_form.StepForm.TheVariants.{Counted, Moved};
+ghost use Rattle.ltm_working.specs.Counted.{counted_number, counted_arrivals};
+ghost use Rattle.ltm_working.specs.Waking.{sink_differs, PutsCells};
+ghost use Rattle.ltm_working.specs.Rewriting.{FitsRow, RenewsRow};
 ghost use Rattle.ltm_setting.specs.Places.{IsShapedFor, IsSlot, all_groups};
 
 use crate::step_form::StepForm;
@@ -23,7 +23,7 @@ use ltm_scenario::Scenario;
 use ltm_setting::{arr_of, destination_at};
 use ltm_units::Pair;
 
-/// Sets the counts of a group at a boundary, and no others; whether some count was another one. If so the cell is noted as
+/// Sets the counts of a group at a slot's end, and no others; whether some count was another one. If so the cell is noted as
 /// changed, and else nothing is written: of the groups of a pair that is worked on again about half have the counts that
 /// they had.
 #[inline]
@@ -31,21 +31,14 @@ fn renew_row(
     curves: &mut Curves,
     changed: &mut Changed,
     group: u32,
-    boundary: u32,
+    slot: u32,
     counts: &[u64],
 ) -> bool
-    requires group { group < groups_of curves.old }
-    requires boundary { boundary ≤ slots_of curves.old }
-    requires count { length counts.now ≡ destinations_of curves.old }
-    requires small { (d : ℕ) → d < length counts.now → slice_index counts.now d < 2 ^ 31 }
-    requires cells { HasCells changed.old (groups_of curves.old) (slots_of curves.old) }
-    ensures value { result
-        ≡ row_differs (destinations_of curves.old) (counts_of curves.old) group boundary
-        (slice_index counts.now) }
-    ensures sets { SetsRow curves.old curves.new group boundary counts.now }
-    ensures cells { PutsCells changed.old changed.new
-        (λ g k. result && is_pair group boundary g k) }
+    requires { FitsRow Counted curves.old changed.old group slot counts.now }
+    ensures { RenewsRow Counted curves.old changed.old group slot counts.now result curves.new
+        changed.new }
 {
+    let boundary = slot + 1;
     if same_numbers(curves.row(group, boundary), counts) {
         return false;
     }
@@ -60,22 +53,14 @@ fn renew_counts(
     curves: &mut Curves,
     changed: &mut Changed,
     group: u32,
-    boundary: u32,
+    slot: u32,
     counts: &[u64],
 ) -> bool
-    requires group { group < groups_of curves.old }
-    requires boundary { boundary ≤ slots_of curves.old }
-    requires count { length counts.now ≡ destinations_of curves.old }
-    requires small { (d : ℕ) → d < length counts.now → slice_index counts.now d < 2 ^ 31 }
-    requires cells { HasCells changed.old (groups_of curves.old) (slots_of curves.old) }
-    ensures value { result
-        ≡ row_differs (destinations_of curves.old) (counts_of curves.old) group boundary
-        (slice_index counts.now) }
-    ensures sets { SetsRow curves.old curves.new group boundary counts.now }
-    ensures cells { PutsCells changed.old changed.new
-        (λ g k. result && is_pair group boundary g k) }
+    requires { FitsRow Counted curves.old changed.old group slot counts.now }
+    ensures { RenewsRow Counted curves.old changed.old group slot counts.now result curves.new
+        changed.new }
 {
-    renew_row(curves, changed, group, boundary, counts)
+    renew_row(curves, changed, group, slot, counts)
 }
 
 /// Writes counts and what has moved onto them.
@@ -102,24 +87,14 @@ fn renew_in(
     moves: &[u64],
     room: &mut [u64],
 ) -> bool
-    requires group { group < groups_of curves.old }
-    requires slot { slot < slots_of curves.old }
-    requires count { length moves.now ≡ destinations_of curves.old }
-    requires small { (d : ℕ) → d < length moves.now
-        → counts_of curves.old group d slot + slice_index moves.now d < 2 ^ 31 }
-    requires cells { HasCells changed.old (groups_of curves.old) (slots_of curves.old) }
+    requires row { FitsRow Moved curves.old changed.old group slot moves.now }
     requires room { length moves.now ≤ length room.old }
-    ensures value { result
-        ≡ row_differs (destinations_of curves.old) (counts_of curves.old) group (slot + 1)
-        (slice_index (counted_row Moved (counts_of curves.old) group slot moves.now)) }
-    ensures sets { SetsRow curves.old curves.new group (slot + 1)
-        (counted_row Moved (counts_of curves.old) group slot moves.now) }
-    ensures cells { PutsCells changed.old changed.new (λ g k. result && is_pair group (slot
-        + 1) g k) }
+    ensures { RenewsRow Moved curves.old changed.old group slot moves.now result curves.new
+        changed.new }
 {
     let counts = &mut room[..moves.len()];
     write_sums(curves.row(group, slot), moves, counts);
-    renew_row(curves, changed, group, slot + 1, counts)
+    renew_row(curves, changed, group, slot, counts)
 }
 
 /// The same in a room for all destinations that there may be. Kept out of line, since it is cleared at each call.
@@ -131,19 +106,9 @@ fn renew_wide(
     slot: u32,
     moves: &[u64],
 ) -> bool
-    requires group { group < groups_of curves.old }
-    requires slot { slot < slots_of curves.old }
-    requires count { length moves.now ≡ destinations_of curves.old }
-    requires small { (d : ℕ) → d < length moves.now
-        → counts_of curves.old group d slot + slice_index moves.now d < 2 ^ 31 }
-    requires cells { HasCells changed.old (groups_of curves.old) (slots_of curves.old) }
-    ensures value { result
-        ≡ row_differs (destinations_of curves.old) (counts_of curves.old) group (slot + 1)
-        (slice_index (counted_row Moved (counts_of curves.old) group slot moves.now)) }
-    ensures sets { SetsRow curves.old curves.new group (slot + 1)
-        (counted_row Moved (counts_of curves.old) group slot moves.now) }
-    ensures cells { PutsCells changed.old changed.new (λ g k. result && is_pair group (slot
-        + 1) g k) }
+    requires { FitsRow Moved curves.old changed.old group slot moves.now }
+    ensures { RenewsRow Moved curves.old changed.old group slot moves.now result curves.new
+        changed.new }
 {
     let _most = curves.destinations();
     renew_in(curves, changed, group, slot, moves, &mut [0; 256])
@@ -158,19 +123,9 @@ fn renew_many(
     slot: u32,
     moves: &[u64],
 ) -> bool
-    requires group { group < groups_of curves.old }
-    requires slot { slot < slots_of curves.old }
-    requires count { length moves.now ≡ destinations_of curves.old }
-    requires small { (d : ℕ) → d < length moves.now
-        → counts_of curves.old group d slot + slice_index moves.now d < 2 ^ 31 }
-    requires cells { HasCells changed.old (groups_of curves.old) (slots_of curves.old) }
-    ensures value { result
-        ≡ row_differs (destinations_of curves.old) (counts_of curves.old) group (slot + 1)
-        (slice_index (counted_row Moved (counts_of curves.old) group slot moves.now)) }
-    ensures sets { SetsRow curves.old curves.new group (slot + 1)
-        (counted_row Moved (counts_of curves.old) group slot moves.now) }
-    ensures cells { PutsCells changed.old changed.new (λ g k. result && is_pair group (slot
-        + 1) g k) }
+    requires { FitsRow Moved curves.old changed.old group slot moves.now }
+    ensures { RenewsRow Moved curves.old changed.old group slot moves.now result curves.new
+        changed.new }
 {
     if moves.len() == 4 {
         let before = curves.row(group, slot);
@@ -182,7 +137,7 @@ fn renew_many(
             curves,
             changed,
             group,
-            slot + 1,
+            slot,
             &[first, second, third, fourth],
         );
     }
@@ -204,29 +159,19 @@ fn renew_moves(
     slot: u32,
     moves: &[u64],
 ) -> bool
-    requires group { group < groups_of curves.old }
-    requires slot { slot < slots_of curves.old }
-    requires count { length moves.now ≡ destinations_of curves.old }
-    requires small { (d : ℕ) → d < length moves.now
-        → counts_of curves.old group d slot + slice_index moves.now d < 2 ^ 31 }
-    requires cells { HasCells changed.old (groups_of curves.old) (slots_of curves.old) }
-    ensures value { result
-        ≡ row_differs (destinations_of curves.old) (counts_of curves.old) group (slot + 1)
-        (slice_index (counted_row Moved (counts_of curves.old) group slot moves.now)) }
-    ensures sets { SetsRow curves.old curves.new group (slot + 1)
-        (counted_row Moved (counts_of curves.old) group slot moves.now) }
-    ensures cells { PutsCells changed.old changed.new (λ g k. result && is_pair group (slot
-        + 1) g k) }
+    requires { FitsRow Moved curves.old changed.old group slot moves.now }
+    ensures { RenewsRow Moved curves.old changed.old group slot moves.now result curves.new
+        changed.new }
 {
     let before = curves.row(group, slot);
     if moves.len() == 2 {
         let first = u64::from(before[0]) + moves[0];
         let second = u64::from(before[1]) + moves[1];
-        return renew_row(curves, changed, group, slot + 1, &[first, second]);
+        return renew_row(curves, changed, group, slot, &[first, second]);
     }
     if moves.len() == 1 {
         let only = u64::from(before[0]) + moves[0];
-        return renew_row(curves, changed, group, slot + 1, &[only]);
+        return renew_row(curves, changed, group, slot, &[only]);
     }
     renew_many(curves, changed, group, slot, moves)
 }
@@ -242,22 +187,12 @@ pub(crate) fn renew(
     given: StepForm,
     numbers: &[u64],
 ) -> bool
-    requires group { group < groups_of curves.old }
-    requires slot { slot < slots_of curves.old }
-    requires count { length numbers.now ≡ destinations_of curves.old }
-    requires small { (d : ℕ) → d < length numbers.now → slice_index
-        (counted_row given (counts_of curves.old) group slot numbers.now) d < 2 ^ 31 }
-    requires cells { HasCells changed.old (groups_of curves.old) (slots_of curves.old) }
-    ensures value { result
-        ≡ row_differs (destinations_of curves.old) (counts_of curves.old) group (slot + 1)
-        (slice_index (counted_row given (counts_of curves.old) group slot numbers.now)) }
-    ensures sets { SetsRow curves.old curves.new group (slot + 1)
-        (counted_row given (counts_of curves.old) group slot numbers.now) }
-    ensures cells { PutsCells changed.old changed.new (λ g k. result && is_pair group (slot
-        + 1) g k) }
+    requires { FitsRow given curves.old changed.old group slot numbers.now }
+    ensures { RenewsRow given curves.old changed.old group slot numbers.now result curves.new
+        changed.new }
 {
     match given {
-        StepForm::Counted => return renew_counts(curves, changed, group, slot + 1, numbers),
+        StepForm::Counted => return renew_counts(curves, changed, group, slot, numbers),
         StepForm::Moved => return renew_moves(curves, changed, group, slot, numbers),
     }
 }
@@ -286,22 +221,19 @@ pub(crate) fn renew_sink(
 ) -> bool
     requires slot { IsSlot scenario.now pair.slot }
     requires shape { IsShapedFor scenario.now curves.old }
-    requires small { counted_number given
-        (arrived_by (setting_of scenario.now) (counts_of curves.old)
-        ((setting_of scenario.now).own pair.node.0) pair.slot) arrived < 2 ^ 31 }
+    requires small { counted_arrivals given (setting_of scenario.now) (counts_of curves.old)
+        pair.node.0 pair.slot arrived < 2 ^ 31 }
     requires no_sink { (setting_of scenario.now).own pair.node.0 ≡ None → arrived ≡ 0 }
     requires cells { HasCells changed.old (all_groups scenario.now)
         (setting_of scenario.now).slots }
-    ensures value { result
-        ≡ sink_differs (setting_of scenario.now) (counts_of curves.old)
+    ensures value { result ≡ sink_differs (setting_of scenario.now) (counts_of curves.old)
         ((setting_of scenario.now).own pair.node.0) (pair.slot + 1)
-        (counted_number given (arrived_by (setting_of scenario.now) (counts_of curves.old)
-        ((setting_of scenario.now).own pair.node.0) pair.slot) arrived) }
+        (counted_arrivals given (setting_of scenario.now) (counts_of curves.old)
+        pair.node.0 pair.slot arrived) }
     ensures shape { IsShapedFor scenario.now curves.new }
     ensures sets { SetsSink (setting_of scenario.now) pair.node.0 (pair.slot + 1)
-        (counted_number given (arrived_by (setting_of scenario.now) (counts_of curves.old)
-        ((setting_of scenario.now).own pair.node.0) pair.slot) arrived)
-        (counts_of curves.old) (counts_of curves.new) }
+        (counted_arrivals given (setting_of scenario.now) (counts_of curves.old)
+        pair.node.0 pair.slot arrived) (counts_of curves.old) (counts_of curves.new) }
     ensures cells { PutsCells changed.old changed.new
         (λ g k. result && is_pair (arr_of (setting_of scenario.now)) (pair.slot + 1) g k) }
 {

@@ -11,13 +11,11 @@ ghost use Rattle.ltm_units.specs.Bounds.{widest_row};
 
 use crate::found::Found;
 use crate::renewal::Renewal;
-use crate::renewing::renew_pair;
 use crate::step_form::StepForm;
 use crate::table::Table;
 use ltm_loading::{counts_by_place, outputs_small, step_by_moves};
 use ltm_node::{NodeInputs, NodeOutputs, no_arrivals, same_shape, write_step};
 use ltm_pairs::readers_wake;
-use ltm_rows::parts_of;
 use ltm_scenario::Scenario;
 use ltm_setting::{is_setting, slot_count};
 use ltm_units::Pair;
@@ -65,17 +63,7 @@ impl Table {
             given: StepForm::Moved,
             outputs: moves,
         };
-        renew_pair(
-            renewal,
-            &mut self.curves,
-            &self.index,
-            &mut self.changed,
-            &mut self.frontier,
-            &mut self.kept,
-        );
-        self.kept
-            .put(pair.node.0 as usize, pair.slot as usize, parts_of(inputs));
-        self.frontier.release(pair);
+        self.settle(renewal, inputs);
     }
 
     /// Claims a pair as `claim` does, makes its step and commits it, in one call: no claim is written and compared again.
