@@ -1,5 +1,5 @@
 -- What goes to a destination by one out-link or by two.
-use Rattle.std.proofs.Common.{◌≡◌, ◌≢◌, ℕ, ◌+◌, ◌-◌, ◌*◌, ◌/◌, ◌^◌, ◌<◌, ◌≤◌, false, List, sum, drop, get_or, length, arith, refl, ap, ◌∙◌, sym}
+use Rattle.std.proofs.Common.{◌≡◌, ◌≢◌, ℕ, zero, suc, ◌+◌, ◌-◌, ◌*◌, ◌/◌, ◌^◌, ◌<◌, ◌≤◌, false, List, sum, drop, get_or, length, arith, refl, ap, ◌∙◌, sym, subst}
 use Rattle.std.proofs.Math.Nat.{mul-le-mul_right}
 use Rattle.std.proofs.lemmas.List.{length-take}
 use Rattle.ltm_node.specs.Shape.{is_own, weights_place}
@@ -61,6 +61,18 @@ pub unsent_on : (n : Inputs) (e : ℕ) (p : ℕ → ℕ) (stands : ℕ → ℕ �
     sending n a b ≡ 0 → IsMoving n e p stands b (a + 1) 0 row
 unsent_on n e p stands b a row s passes h al bl none =
     nothing_on n e p stands b a row s passes h al bl (sunk_nothing n e p a b none) (λ j. part_none n a b j none)
+
+-- a destination to which no arm sends
+idle_by : (n : Inputs) (e : ℕ) (p : ℕ → ℕ) (stands : ℕ → ℕ → ℕ → Type 0) (b a : ℕ) (row : List ℕ) → IsSolvable n → Passes n stands → IsMoving n e p stands b 0 0 row → a ≤ n.shape.arms → b < n.shape.destinations →
+    ((i : ℕ) → i < n.shape.arms → sending n i b ≡ 0) → IsMoving n e p stands b a 0 row
+idle_by n e p stands b zero row s passes h al bl none = h
+idle_by n e p stands b (suc a) row s passes h al bl none =
+    let next : a + 1 ≡ suc a = omega arith in
+    subst (λ (k : ℕ). IsMoving n e p stands b k 0 row) next (unsent_on n e p stands b a row s passes (idle_by n e p stands b a row s passes h (omega arith) bl none) (omega arith) bl (none a (omega arith)))
+
+pub idle_on : (n : Inputs) (e : ℕ) (p : ℕ → ℕ) (stands : ℕ → ℕ → ℕ → Type 0) (b : ℕ) (row : List ℕ) → IsSolvable n → Passes n stands → IsMoving n e p stands b 0 0 row → b < n.shape.destinations →
+    ((i : ℕ) → i < n.shape.arms → sending n i b ≡ 0) → IsMoving n e p stands (b + 1) 0 0 row
+idle_on n e p stands b row s passes h bl none = next_destination n e p stands b row s (idle_by n e p stands b n.shape.arms row s passes h (omega arith) bl none)
 
 -- a destination without a weight
 pub unweighted_on : (n : Inputs) (e : ℕ) (p : ℕ → ℕ) (stands : ℕ → ℕ → ℕ → Type 0) (b : ℕ) (row : List ℕ) → IsSolvable n → Passes n stands → IsMoving n e p stands b 0 0 row → b < n.shape.destinations →

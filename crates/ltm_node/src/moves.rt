@@ -3,7 +3,8 @@
 //! All that goes to a destination is split over the same weights, so their sum is formed once for all arms, and the first
 //! weights above 0 are looked for once. Where one or two weights are all of the sum, as in nearly every row, no arm looks
 //! through the weights (`moves/ways.rt`). Else an amount is split out-link by out-link, what is not split yet staying in
-//! hand, and ends with the last weight above 0. An amount of 0 moves nothing and is passed over.
+//! hand, and ends with the last weight above 0. An amount of 0 moves nothing and is passed over, and so
+//! is a destination to which no arm sends, before its weights are looked at.
 //!
 //! Whoever changes this: the rule is `MovesAtShares` of `specs/Step.antt`, with `part` and `to_sink` of `specs/Demands.antt`
 //! for what is sent by each way. The pass here is its general form, for all shapes and shares; each fast form is proved
@@ -26,10 +27,10 @@
 //! of the loops is one of `IsMoving` in `specs/Moving.antt`, which says how far row and tally are: a turn is split over the
 //! destinations in the order of their numbers. Where a number stands in a row is told by `shape.rt`, `specs/Shape.antt` and
 //! `specs/Outputs.antt`; the passes rely on the loads standing arm by arm.
-ghost use Rattle.std.specs.Prelude.{◌≡◌, ◌<◌, ◌+◌, false, sum, length};
+ghost use Rattle.std.specs.Prelude.{◌≡◌, ◌<◌, ◌+◌, ℕ, IsFalse, false, sum, length};
 ghost use Rattle.ltm_units.specs.Sums.{sum_below};
 ghost use Rattle.ltm_node.specs.Shape.{is_own, sending_place, width};
-ghost use Rattle.ltm_node.specs.Inputs.{weights};
+ghost use Rattle.ltm_node.specs.Inputs.{sending, weights};
 ghost use Rattle.ltm_node.specs.Outputs.{entered_after_place};
 ghost use Rattle.ltm_node.specs.Solvable.{IsSolvable};
 ghost use Rattle.ltm_node.specs.Portion.{AreFractions};
@@ -237,6 +238,23 @@ impl Mover<'_> {
         }
     }
 
+    /// Whether some arm sends to a destination.
+    #[inline]
+    fn is_sent_to(&self, destination: u32) -> bool
+        requires { destination < self.now.inputs.now.shape.destinations }
+        ensures { IsFalse result → (i : ℕ) → i < self.now.inputs.now.shape.arms
+            → sending self.now.inputs.now i destination ≡ 0 }
+    {
+        let mut place = destination as usize;
+        for arm in 0..self.shape.arms {
+            if self.load_at(arm, destination, place).amount > 0 {
+                return true;
+            }
+            place += self.shape.destinations as usize;
+        }
+        false
+    }
+
     /// Adds what all arms move to a destination that is not the node.
     fn send_all<T: Tally>(&self, destination: u32, row: &mut [u64], tally: &mut T)
         requires destination { destination < self.now.inputs.now.shape.destinations }
@@ -245,6 +263,9 @@ impl Mover<'_> {
         ensures after { HaveMovedTo self.now (T.stands tally.new) (destination + 1) row.new }
     {
         T::passes();
+        if !self.is_sent_to(destination) {
+            return;
+        }
         let whole = self.whole_weight(destination);
         if whole == 0 {
             return;
