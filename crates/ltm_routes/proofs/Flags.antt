@@ -1,14 +1,10 @@
 -- Tight links are those with which least routes begin; and lists with one more.
-use Rattle.std.proofs.Common.{◌≡◌, ◌≢◌, ℕ, zero, suc, ◌+◌, ◌<◌, ◌≤◌, ◌==◌, ◌⊎◌, inl, inr, ◌↔◌, Bool, true, false, List, [], ◌∷◌, ◌++◌, length, Option, Some, None, slice_index_or, refl, ap, sym, subst, arith, ◌∙◌, length-append}
+use Rattle.std.proofs.Common.{◌≡◌, ℕ, ◌≤◌, true, false, Option, Some, None, arith}
 use Rattle.std.proofs.lemmas.Bool.Decides.{nat_tests}
 use Rattle.ltm_units.specs.declared.quantities.Millis.{Millis}
-use Rattle.ltm_scenario.specs.Data.{ScenarioData}
-use Rattle.ltm_scenario.specs.Reads.{destination_node}
-use Rattle.ltm_routes.specs.Roads.{Roads, AreRoads, roads_of}
-use Rattle.ltm_routes.specs.Routes.{IsRoute, time_of, IsLeast, IsLeastTime, Begins}
-use Rattle.ltm_routes.specs.Potentials.{potential_at, AreLeastTimes, is_tight, is_tight_over}
-use Rattle.ltm_routes.specs.Split.{RoutesData, AreRoutes, AreFlags, AreFirstRoutes, no_routes, routes_to, begins_at}
-use Rattle.ltm_routes.proofs.Searching.{decide}
+use Rattle.ltm_routes.specs.Roads.{Roads}
+use Rattle.ltm_routes.specs.Routes.{time_of, IsLeast, IsLeastTime, Begins}
+use Rattle.ltm_routes.specs.Potentials.{is_tight}
 
 pub tight_begins : (r : Roads) (to link : ℕ) (tail head : Option Millis) → IsLeastTime r (r.tail link) to tail → IsLeastTime r (r.head link) to head → is_tight tail (r.free_time link) head ≡ true → Begins r to link
 tight_begins r to link None head from_tail from_head tight = absurd (differ tight)

@@ -1,5 +1,5 @@
 -- What the roads of every scenario keep.
-use Rattle.std.proofs.Common.{◌≡◌, ℕ, ◌<◌, ◌≤◌, ◌*◌, length, List, All, Some, None, Option, Ok, Err, Result, slice_get, slice_index_or, IsOk, ap, sym, refl, subst, arith, ◌∙◌}
+use Rattle.std.proofs.Common.{◌≡◌, ℕ, ◌<◌, ◌≤◌, length, Some, Ok, Err, Result, slice_get, slice_index_or, IsOk, ap, sym, refl, subst, arith, ◌∙◌}
 use Rattle.std.specs.Option.{option_map_or}
 use Rattle.std.proofs.lemmas.Option.{slice_get-get_or}
 use Rattle.ltm_units.specs.Results.{refuse, ◌>>>◌}
@@ -13,7 +13,7 @@ use Rattle.ltm_diagram.specs.Limits.{limits_of, field_in_range, free_flow_time, 
 use Rattle.ltm_diagram.specs.InRange.{LimitsInRange, AreInRange}
 use Rattle.ltm_scenario.specs.Data.{ScenarioData}
 use Rattle.ltm_scenario.specs.IsScenario.{IsScenario}
-use Rattle.ltm_routes.specs.Roads.{Roads, AreRoads, roads_of}
+use Rattle.ltm_routes.specs.Roads.{AreRoads, roads_of}
 
 -- limits, where there are any, have that free-flow time
 abbrev HasFree : ℕ → Result Limits DiagramFault → Type 0

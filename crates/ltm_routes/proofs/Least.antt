@@ -1,12 +1,11 @@
 -- Potentials that fit over each link, and are taken by routes, are least times.
-use Rattle.std.proofs.Common.{◌≡◌, ◌≢◌, ℕ, zero, suc, ◌+◌, ◌<◌, ◌≤◌, ◌==◌, Bool, true, false, nat_le, List, [], ◌∷◌, Option, Some, None, IsSome, slice_index_or, refl, ap, sym, subst, arith, ◌∙◌}
-use Rattle.std.specs.Prelude.{sum_by}
+use Rattle.std.proofs.Common.{◌≡◌, ℕ, ◌+◌, ◌≤◌, true, List, [], ◌∷◌, Option, Some, None, refl, sym, subst, arith}
 use Rattle.std.proofs.lemmas.Bool.Decides.{nat_tests}
 use Rattle.std.proofs.lemmas.List.Sums.{sum_by-cons}
 use Rattle.ltm_units.specs.declared.quantities.Millis.{Millis}
-use Rattle.ltm_routes.specs.Roads.{Roads, AreRoads}
-use Rattle.ltm_routes.specs.Routes.{IsRoute, time_of, IsLeast, IsLeastTime}
-use Rattle.ltm_routes.specs.Potentials.{potential_at, AreLeastTimes, AreTaken, AllFit, AllLeadOn, LeadsOn, is_zero, fits, is_tight, fits_over, is_tight_over}
+use Rattle.ltm_routes.specs.Roads.{Roads}
+use Rattle.ltm_routes.specs.Routes.{IsRoute, time_of, IsLeastTime}
+use Rattle.ltm_routes.specs.Potentials.{potential_at, AreLeastTimes, AreTaken, AllFit, is_zero, fits}
 
 -- a potential of at most this time
 abbrev pub AtMost : Option Millis → ℕ → Type 0

@@ -2,8 +2,7 @@ pub mod Kept
 pub mod Least
 pub mod Exact
 pub mod Out
-pub mod Searching
-pub mod Starting
+pub mod Backward
 pub mod Flags
 pub mod Rows
 pub mod Placed

@@ -1,13 +1,13 @@
 -- The routes of a scenario are the only ones.
-use Rattle.std.proofs.Common.{◌≡◌, ℕ, zero, suc, ◌<◌, ◌≤◌, ◌↔◌, Bool, true, false, List, [], ◌∷◌, length, Option, Some, None, slice_index_or, refl, ap, sym, subst, arith, ◌∙◌}
+use Rattle.std.proofs.Common.{◌≡◌, ℕ, ◌<◌, ◌↔◌, Bool, true, false, List, length, Option, Some, None, refl, ap, sym, subst, ◌∙◌}
 use Rattle.std.proofs.lemmas.List.{ext_get_or}
 use Rattle.ltm_units.specs.declared.quantities.Millis.{Millis}
 use Rattle.ltm_scenario.specs.Data.{ScenarioData}
 use Rattle.ltm_scenario.specs.Reads.{destination_node}
 use Rattle.ltm_routes.specs.Roads.{Roads, roads_of}
-use Rattle.ltm_routes.specs.Routes.{IsRoute, time_of, IsLeast, IsLeastTime, Begins}
+use Rattle.ltm_routes.specs.Routes.{IsLeastTime}
 use Rattle.ltm_routes.specs.Potentials.{potential_at}
-use Rattle.ltm_routes.specs.Search.{millis}
+use Rattle.ltm_search.specs.Search.{millis}
 use Rattle.ltm_routes.specs.Split.{RoutesData, AreRoutes, AreAllRoutes, routes_to, no_routes, begins_at}
 use Rattle.ltm_routes.proofs.Flags.{least_is}
 

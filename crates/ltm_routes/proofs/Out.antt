@@ -1,10 +1,10 @@
 -- The links that leave and enter a node, by their places.
-use Rattle.std.proofs.Common.{◌≡◌, ℕ, ◌<◌, List, [], ◌∷◌, map, length, slice_index_or, refl, ap, sym, subst, arith, ◌∙◌}
+use Rattle.std.proofs.Common.{◌≡◌, ℕ, ◌<◌, List, [], ◌∷◌, map, length, slice_index_or, refl, ap, sym, subst, ◌∙◌}
 use Rattle.std.specs.List.{Contains}
 use Rattle.std.proofs.lemmas.List.{get_or-map, length-map, get_or_default}
 use Rattle.ltm_units.specs.declared.places.LinkId.{LinkId}
 use Rattle.ltm_network.specs.Network.{NetworkData, tail_of, head_of, out_links, in_links, out_place, in_place}
-use Rattle.ltm_network.specs.Places.{HasPlaces, LinksAtTheirPlaces}
+use Rattle.ltm_network.specs.Places.{LinksAtTheirPlaces}
 
 abbrev pub numbers : List LinkId → List ℕ
 numbers links = map (λ (link : LinkId). link.0) links

@@ -1,13 +1,12 @@
 -- Setting the rows of destinations, node by node.
-use Rattle.std.proofs.Common.{◌≡◌, ◌≢◌, ◌⊎◌, inl, inr, ℕ, zero, suc, ◌+◌, ◌<◌, ◌≤◌, ◌==◌, ◌&&◌, not, nat_lt, nat_le, Bool, true, false, cond, List, [], ◌∷◌, ◌++◌, map, length, sum, Option, Some, None, is_some, IsSome, Ok, Err, Result, slice_index_or, refl, ap, sym, subst, arith, ◌∙◌, length-append}
-use Rattle.std.specs.List.{list_all, Contains}
-use Rattle.std.specs.Prelude.{sum_by}
+use Rattle.std.proofs.Common.{◌≡◌, ◌≢◌, ℕ, zero, suc, ◌+◌, ◌<◌, ◌≤◌, ◌==◌, ◌&&◌, not, Bool, true, false, List, [], ◌∷◌, map, length, sum, Option, is_some, Ok, Err, slice_index_or, refl, ap, sym, subst, arith, ◌∙◌}
+use Rattle.std.specs.List.{list_all}
 use Rattle.std.specs.Bool.{if◌then◌else◌}
 use Rattle.std.proofs.lemmas.Bool.Decides.{nat_tests}
 use Rattle.std.proofs.lemmas.List.Sums.{sum_by-cons}
 use Rattle.std.proofs.lemmas.List.{get_or_default}
-use Rattle.ltm_network.specs.Network.{NetworkData, out_links, tail_of, out_place}
-use Rattle.ltm_network.specs.Places.{HasPlaces, LinksAtTheirPlaces}
+use Rattle.ltm_network.specs.Network.{out_links, out_place}
+use Rattle.ltm_network.specs.Places.{LinksAtTheirPlaces}
 use Rattle.ltm_splits.specs.declared.keys.SplitFault.{SplitFault}
 use Rattle.ltm_splits.specs.Rows.{SplitRow, key_of}
 use Rattle.ltm_scenario.specs.Data.{ScenarioData}
@@ -19,7 +18,7 @@ use Rattle.ltm_routes.specs.Split.{RoutesData, AreRoutes, begins_at, weight_of, 
 use Rattle.ltm_routes.specs.Setting.{is_before, HasSet}
 use Rattle.ltm_routes.proofs.Exact.{least_lead}
 use Rattle.ltm_routes.proofs.Flags.{tight_begins}
-use Rattle.ltm_routes.proofs.Rows.{split_refused, one_set, none_set, set_then, set_still, set_next, all_still, lists_reach, lists_more}
+use Rattle.ltm_routes.proofs.Rows.{split_refused, one_set, none_set, set_then, set_next, all_still, lists_reach, lists_more}
 
 -- ---- the rows of a node
 unrouted : (s : ScenarioData) (d n : ℕ) (routes : RoutesData) → is_routed s d routes n ≡ false → rows_from s d routes n ≡ []

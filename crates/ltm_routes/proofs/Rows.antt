@@ -1,6 +1,6 @@
 -- Rows that are set in order of destination, then of node, are new.
-use Rattle.std.proofs.Common.{◌≡◌, ◌≢◌, ◌⊎◌, inl, inr, ℕ, zero, suc, ◌+◌, ◌<◌, ◌≤◌, ◌==◌, ◌&&◌, ◌||◌, not, nat_lt, nat_le, Bool, true, false, cond, List, [], ◌∷◌, ◌++◌, map, length, sum, Option, Some, None, is_none, is_some, Ok, Err, Result, slice_index_or, refl, ap, sym, subst, arith, ◌∙◌, length-append}
-use Rattle.std.specs.List.{list_all, Contains}
+use Rattle.std.proofs.Common.{◌≡◌, inl, inr, ℕ, zero, suc, ◌+◌, ◌<◌, ◌≤◌, ◌==◌, ◌&&◌, nat_le, Bool, true, false, cond, List, [], ◌∷◌, ◌++◌, length, sum, Some, None, is_none, Ok, Err, Result, refl, ap, sym, subst, arith, ◌∙◌, length-append}
+use Rattle.std.specs.List.{list_all}
 use Rattle.std.specs.Map.{lookup}
 use Rattle.std.specs.BTreeMap.{is_at}
 use Rattle.std.specs.Ordering.{match_ordering}
@@ -16,7 +16,7 @@ use Rattle.ltm_scenario.specs.Data.{ScenarioData, splits_of}
 use Rattle.ltm_scenario.specs.Build.{with_split, ◌>>=◌}
 use Rattle.ltm_routes.specs.Split.{with_splits, lists_below}
 use Rattle.ltm_routes.specs.Setting.{is_before, HasSet}
-use Rattle.ltm_routes.proofs.Searching.{decide}
+use Rattle.ltm_search.proofs.Arriving.{decide}
 
 -- ---- one row
 same_key : (n d : ℕ) (k : SplitKey) → is_eq (split_cmp (key_of n d 0) k) ≡ (((k.node.0 == n) && (k.destination == d)) && (k.from == 0))

@@ -1,5 +1,5 @@
 -- The routes to a destination, and the split rows that follow them.
-use Rattle.std.specs.Prelude.{ℕ, ◌≡◌, ◌<◌, ◌+◌, ◌==◌, ◌&&◌, ◌↔◌, not, Bool, true, false, if◌then◌else◌, is_some, List, [], ◌∷◌, ◌++◌, map, length, slice_index_or, zero, suc, Option, Result, Ok}
+use Rattle.std.specs.Prelude.{ℕ, ◌≡◌, ◌<◌, ◌==◌, ◌&&◌, ◌↔◌, not, Bool, true, false, if◌then◌else◌, is_some, List, [], ◌∷◌, ◌++◌, map, length, slice_index_or, zero, suc, Option, Result, Ok}
 use Rattle.ltm_units.specs.declared.quantities.Millis.{Millis}
 use Rattle.ltm_network.specs.Network.{out_links}
 use Rattle.ltm_splits.specs.declared.keys.SplitFault.{SplitFault}

@@ -1,4 +1,4 @@
-use Rattle.std.proofs.Common.{◌≡◌, ◌≢◌, ℕ, ◌<◌, true, IsSome}
+use Rattle.std.proofs.Common.{◌≢◌, ℕ, ◌<◌, IsSome}
 use Rattle.ltm_routes.specs.Roads.{roads_of}
 use Rattle.ltm_routes.specs.Potentials.{potential_at, LeadsOn}
 use Rattle.ltm_routes.proofs.potentials.all_lead_on.Given as goal

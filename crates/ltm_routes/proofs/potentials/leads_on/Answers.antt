@@ -1,6 +1,6 @@
-use Rattle.std.proofs.Common.{◌≡◌, ℕ, ◌<◌, ◌≤◌, Bool, List, true, false, length, slice_index_or, refl, ap, sym, subst, arith, ◌∙◌}
+use Rattle.std.proofs.Common.{◌≡◌, ℕ, ◌<◌, ◌≤◌, Bool, List, true, false, length, slice_index_or, refl, ap, sym, arith, ◌∙◌}
 use Rattle.ltm_units.specs.declared.places.LinkId.{LinkId}
-use Rattle.ltm_network.specs.Network.{NetworkData, out_links, tail_of}
+use Rattle.ltm_network.specs.Network.{NetworkData, out_links}
 use Rattle.ltm_routes.specs.Roads.{roads_of}
 use Rattle.ltm_routes.specs.Potentials.{LeadsOn, is_tight_over}
 use Rattle.ltm_routes.proofs.Out.{numbers, leaves, left_at}

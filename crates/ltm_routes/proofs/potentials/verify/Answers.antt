@@ -1,4 +1,4 @@
-use Rattle.std.proofs.Common.{◌≡◌, ℕ, ◌<◌, Bool, List, Option, true, false, length, refl, ap, sym, subst, ◌∙◌}
+use Rattle.std.proofs.Common.{◌≡◌, ℕ, ◌<◌, Bool, List, Option, true, false, sym, subst, ◌∙◌}
 use Rattle.ltm_units.specs.declared.quantities.Millis.{Millis}
 use Rattle.ltm_scenario.specs.Reads.{destination_node}
 use Rattle.ltm_routes.specs.Roads.{Roads, AreRoads, roads_of}

@@ -1,9 +1,9 @@
-use Rattle.std.proofs.Common.{◌≡◌, ◌<◌, ◌≤◌, ℕ, List, length, Err, ap, subst, arith, ◌∙◌, sym}
+use Rattle.std.proofs.Common.{◌<◌, ℕ, List, length, Err, ap, subst, arith}
 use Rattle.ltm_scenario.specs.Data.{ScenarioData}
 use Rattle.ltm_scenario.specs.Reads.{destination_node}
 use Rattle.ltm_routes.specs.Roads.{roads_of}
 use Rattle.ltm_routes.specs.Split.{RoutesData, AreRoutes, routes_to}
-use Rattle.ltm_routes.proofs.Placed.{routes_still, routes_are, destination_set, destination_over, destinations_set}
+use Rattle.ltm_routes.proofs.Placed.{routes_still, routes_are, destination_set, destination_over}
 use Rattle.ltm_routes.proofs.set_rows.set_all.Goals as goal
 
 pub set_rows_to-requires-clause-routes : goal.set_rows_to-requires-clause-routes

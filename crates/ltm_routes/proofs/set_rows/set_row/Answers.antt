@@ -1,4 +1,4 @@
-use Rattle.std.proofs.Common.{◌≡◌, Result, Err, ◌∙◌, refl, sym, ap}
+use Rattle.std.proofs.Common.{◌≡◌, Result, Err, ◌∙◌, refl, sym}
 use Rattle.ltm_routes.specs.declared.faults.RoutesFault.{RoutesFault}
 use Rattle.ltm_routes.proofs.Placed.{unrouted_set, routed_set, routed_refused}
 use Rattle.ltm_routes.proofs.set_rows.set_row.Goals as goal

@@ -1,4 +1,4 @@
-use Rattle.std.proofs.Common.{◌≡◌, ◌<◌, ◌≤◌, length, Err, ap, subst, arith, ◌∙◌, sym}
+use Rattle.std.proofs.Common.{◌≡◌, ◌<◌, ◌≤◌, length, Err, ap, subst, ◌∙◌}
 use Rattle.ltm_network.specs.Network.{NetworkData}
 use Rattle.ltm_routes.proofs.Placed.{routes_still, node_set, node_over, nodes_set}
 use Rattle.ltm_routes.proofs.set_rows.set_rows_to.Goals as goal

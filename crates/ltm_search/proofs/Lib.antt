@@ -1,0 +1,5 @@
+pub mod Passed
+pub mod Certified
+pub mod Leaving
+pub mod Arriving
+pub mod Searching

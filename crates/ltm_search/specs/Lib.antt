@@ -1,0 +1,4 @@
+pub mod Ways
+pub mod Links
+pub mod Arrivals
+pub mod Search
