@@ -8,27 +8,27 @@ use Rattle.ltm_loading.specs.Setting.{Setting, IsNetwork, IsSetting}
 use Rattle.ltm_flows.specs.declared.loading.Loading.{Loading}
 use Rattle.ltm_flows.specs.Shown.{ShowsCounts}
 use Rattle.ltm_gap.specs.declared.sums.Sum.{Sum}
-use Rattle.ltm_gap.specs.Search.{arrival_at, millis_of}
+use Rattle.ltm_search.specs.Arrivals.{arrivals_of, arrival_at, millis_of}
 use Rattle.ltm_gap.specs.Told.{AreGaps, IsGapTo, IsGap}
 use Rattle.ltm_gap.specs.declared.gaps.Gap.{Gap}
 use Rattle.ltm_gap.specs.declared.gaps.Gaps.{Gaps}
-use Rattle.ltm_gap.specs.declared.search.Search.{Search}
+use Rattle.ltm_search.specs.declared.search.Search.{Search}
 use Rattle.ltm_gap.specs.Gaps.{produced_in, twice_least, late_of, earliest_to, twice_in, late_in, least_to, late_to, least, late}
-use Rattle.ltm_gap.specs.Sums.{no_sum, sum_at, AddsBelow, AreSums, Adds, AddsSlot, IsFrom}
+use Rattle.ltm_gap.specs.Steps.{no_sum, sum_at, AddsBelow, AreSums, Adds, AddsSlot, IsFrom}
 
 -- ---- of a whole slot
 pub slot_added : (s : Setting) (l : Loading) (origin slot : ℕ) (first last : Search) (below : ℕ) (old new : List Sum) → IsNetwork s → IsFrom s l origin slot first → IsFrom s l origin (slot + 1) last → s.destinations ≤ below
-    → AddsBelow s origin slot first.arrivals.items last.arrivals.items below old new → AddsSlot s l origin slot old new
+    → AddsBelow s origin slot (arrivals_of first) (arrivals_of last) below old new → AddsSlot s l origin slot old new
 slot_added s l origin slot first last below old new network from to all adds = record {
   twice_more = λ v c shows d low.
       let place = network.place_is_node d low in
       (adds.added d (omega arith)).twice_more
-      ∙ ap (λ o. (sum_at old d).twice + produced_in s origin d slot * twice_least s.step s.slots slot o (millis_of (arrival_at last.arrivals.items (s.place d)))) (from.earliest v c shows (s.place d) place)
+      ∙ ap (λ o. (sum_at old d).twice + produced_in s origin d slot * twice_least s.step s.slots slot o (millis_of (arrival_at (arrivals_of last) (s.place d)))) (from.earliest v c shows (s.place d) place)
       ∙ ap (λ o. (sum_at old d).twice + produced_in s origin d slot * twice_least s.step s.slots slot (earliest_to s c d origin slot) o) (to.earliest v c shows (s.place d) place);
   late_more = λ v c shows d low.
       let place = network.place_is_node d low in
       (adds.added d (omega arith)).late_more
-      ∙ ap (λ o. (sum_at old d).late + late_of (produced_in s origin d slot) o (millis_of (arrival_at last.arrivals.items (s.place d)))) (from.earliest v c shows (s.place d) place)
+      ∙ ap (λ o. (sum_at old d).late + late_of (produced_in s origin d slot) o (millis_of (arrival_at (arrivals_of last) (s.place d)))) (from.earliest v c shows (s.place d) place)
       ∙ ap (λ o. (sum_at old d).late + late_of (produced_in s origin d slot) (earliest_to s c d origin slot) o) (to.earliest v c shows (s.place d) place);
 }
 

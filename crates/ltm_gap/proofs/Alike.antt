@@ -4,8 +4,9 @@ use Rattle.std.specs.Prelude.{option_and_then}
 use Rattle.ltm_curve.specs.Counts.{interpolated}
 use Rattle.ltm_curve.proofs.Interpolation.{interpolated_same}
 use Rattle.ltm_loading.specs.Setting.{Setting}
+use Rattle.ltm_search.specs.Ways.{Ways, IsRoute, arrival, IsEarliest}
 use Rattle.ltm_gap.specs.Leaving.{end_of, lets_out, enters, may_leave, leaves_from, leaves_by, first_from}
-use Rattle.ltm_gap.specs.Ways.{Ways, IsRoute, arrival, IsEarliest, IsEarliestFrom}
+use Rattle.ltm_gap.specs.Within.{IsEarliestFrom}
 use Rattle.ltm_gap.proofs.Firsts.{same_first}
 use Rattle.ltm_gap.proofs.Passing.{is_entry}
 

@@ -11,32 +11,42 @@ use Rattle.ltm_loading.specs.Totals.{entered_link, left_link}
 use Rattle.ltm_flows.specs.declared.loading.Loading.{Loading}
 use Rattle.ltm_flows.specs.Shown.{curves_of, last_of, links_of, nodes_of}
 use Rattle.ltm_flows.specs.Counted.{entered_by, left_by}
+use Rattle.ltm_search.specs.Ways.{Ways, IsRoute, arrival}
 use Rattle.ltm_gap.specs.Leaving.{end_of, leaves_by, starts}
-use Rattle.ltm_gap.specs.Ways.{Ways, AreWays, IsRoute, arrival, IsEarliestFrom}
+use Rattle.ltm_gap.specs.Within.{IsEarliestFrom}
 use Rattle.ltm_gap.specs.Earliest.{ways, earliest}
-use Rattle.ltm_gap.specs.Read.{Suits, read_ways}
+use Rattle.ltm_gap.specs.Told.{Suits}
+use Rattle.ltm_gap.specs.Steps.{read_ways}
 use Rattle.ltm_gap.proofs.Passing.{passes_later, passes_rises}
 use Rattle.ltm_gap.proofs.Reaching.{is_reached}
-use Rattle.ltm_gap.proofs.Within.{StartsBy, within_earliest}
+use Rattle.ltm_gap.proofs.Within.{AreStepped, StartsBy, within_earliest}
 
 -- links that are passed by curves which rise
 abbrev passed : Setting → (ℕ → ℕ → ℕ) → (ℕ → ℕ → ℕ) → Ways
 passed s up down = record { nodes = s.nodes; links = s.links; tail = s.tail; head = s.head; leaves = λ link. leaves_by s link (up link) (down link) }
 
-passed_ways : (s : Setting) (up down : ℕ → ℕ → ℕ) → IsSetting s → ((link : ℕ) → link < s.links → Rises (up link) s.slots) → AreWays (passed s up down) s.step (end_of s)
+passed_ways : (s : Setting) (up down : ℕ → ℕ → ℕ) → IsSetting s → ((link : ℕ) → link < s.links → Rises (up link) s.slots) → AreStepped (passed s up down) s.step (end_of s)
 passed_ways s up down is rises = record {
-  tails = is.network.tail_is_node;
-  heads = is.network.head_is_node;
+  ways = record {
+    tails = is.network.tail_is_node;
+    heads = is.network.head_is_node;
+    later = λ link x y low leaves. let some = is.some_step in omega (arith, in_steps link x y low leaves);
+    rises = λ link x y exit low l leaves. passes_rises s link (up link) (down link) x y exit is.some_step (rises link low) l leaves;
+    within = λ link n x y low by leaves. (passes_later s link (up link) (down link) x y leaves).1;
+    grows = λ n. omega arith;
+  };
   some_step = is.some_step;
-  later = λ link x y low leaves.
-      let later = passes_later s link (up link) (down link) x y leaves in
-      let long : s.step ≤ s.free_time link = is.free_time link low in
-      (omega (arith, later.0), later.1);
-  rises = λ link x y exit low l leaves. passes_rises s link (up link) (down link) x y exit is.some_step (rises link low) l leaves;
+  steps = in_steps;
 }
+  where
+    in_steps : (link x y : ℕ) → link < s.links → leaves_by s link (up link) (down link) x ≡ Some y → x + s.step ≤ y
+    in_steps link x y low leaves =
+        let later = passes_later s link (up link) (down link) x y leaves in
+        let long : s.step ≤ s.free_time link = is.free_time link low in
+        omega (arith, later.0)
 
 pub read_are_ways : (s : Setting) (l : Loading) → IsSetting s → Suits s l → total_groups (curves_of l) ≡ 2 * links_of l + nodes_of l + 1
-    → ((g k : ℕ) → g < total_groups (curves_of l) → k < last_of l → total_at (curves_of l) g k ≤ total_at (curves_of l) g (k + 1)) → AreWays (read_ways s l) s.step (end_of s)
+    → ((g k : ℕ) → g < total_groups (curves_of l) → k < last_of l → total_at (curves_of l) g k ≤ total_at (curves_of l) g (k + 1)) → AreStepped (read_ways s l) s.step (end_of s)
 read_are_ways s l is suits groups rises = passed_ways s (entered_by l) (left_by l) is (λ link low k below.
     let there : link < links_of l = subst (λ n. link < n) (sym suits.links) low in
     rises (up_of link) k (subst (λ n. up_of link < n) (sym groups) (omega arith)) (subst (λ n. k < n) (sym suits.slots) below))
@@ -45,7 +55,7 @@ entered_rises : (s : Setting) (c : Counts) → NeverFall → IsSetting s → IsL
 entered_rises s c never is loading link low = λ k below.
     sum_below-le s.destinations (λ d. c (up_of link) d k) (λ d. c (up_of link) d (k + 1)) (λ d l. never s c is loading (up_of link) d k (omega arith) l below)
 
-pub are_ways : (s : Setting) (c : Counts) → NeverFall → IsSetting s → IsLoading s c → AreWays (ways s c) s.step (end_of s)
+pub are_ways : (s : Setting) (c : Counts) → NeverFall → IsSetting s → IsLoading s c → AreStepped (ways s c) s.step (end_of s)
 are_ways s c never is loading = passed_ways s (entered_link s c) (left_link s c) is (entered_rises s c never is loading)
 
 pub starts_within : (s : Setting) (c : Counts) (origin boundary : ℕ) → StartsBy (starts s c origin boundary) (end_of s)

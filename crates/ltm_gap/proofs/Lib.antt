@@ -1,9 +1,7 @@
 pub mod Firsts
 pub mod Opening
 pub mod Passing
-pub mod Certified
 pub mod Within
-pub mod Searching
 pub mod Alike
 pub mod Reaching
 pub mod Lawful

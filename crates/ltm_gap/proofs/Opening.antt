@@ -8,7 +8,8 @@ use Rattle.ltm_units.proofs.BadBytes.{first_is, is_first, none_below, first_not_
 use Rattle.ltm_loading.specs.Setting.{Setting}
 use Rattle.std.specs.Prelude.{option_map}
 use Rattle.ltm_times.proofs.Least.{none_passes}
-use Rattle.ltm_gap.specs.Leaving.{first_open, open_moment, first_out}
+use Rattle.ltm_gap.specs.Leaving.{open_moment}
+use Rattle.ltm_gap.specs.Steps.{first_open, first_out}
 use Rattle.ltm_gap.proofs.Firsts.{both, left_of, right_of, not_left, not_right, at_most, is_at_most, more, less, not_less, second, shifted}
 
 quotient_below : (m slots step : ℕ) → 0 < step → m < slots * step → m / step < slots

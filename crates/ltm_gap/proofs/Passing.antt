@@ -1,19 +1,12 @@
 -- Who comes to a link later leaves it no sooner, and it takes a step at least.
-use Rattle.std.proofs.Common.{◌≡◌, ℕ, ◌+◌, ◌/◌, ◌<◌, ◌≤◌, ◌&&◌, true, nat_le, nat_lt, Option, Some, None, refl, ap, arith, ◌∙◌}
-use Rattle.std.specs.Prelude.{option_and_then}
+use Rattle.std.proofs.Common.{◌≡◌, ℕ, ◌+◌, ◌/◌, ◌<◌, ◌≤◌, ◌&&◌, true, nat_le, nat_lt, Some, arith}
 use Rattle.ltm_units.proofs.BadBytes.{is_first}
 use Rattle.ltm_curve.specs.Counts.{Rises, interpolated}
 use Rattle.ltm_curve.proofs.Interpolation.{interpolated_rises}
 use Rattle.ltm_loading.specs.Setting.{Setting}
+use Rattle.ltm_search.proofs.Passed.{and_then_some, and_then_at}
 use Rattle.ltm_gap.specs.Leaving.{end_of, lets_out, open_moment, enters, may_leave, leaves_from, leaves_by}
 use Rattle.ltm_gap.proofs.Firsts.{both, left_of, right_of, at_most, is_at_most, found_before}
-
-pub and_then_some : (f : ℕ → Option ℕ) (o : Option ℕ) (y : ℕ) → option_and_then f o ≡ Some y → (x : ℕ) × (o ≡ Some x) × (f x ≡ Some y)
-and_then_some f None y h = cc
-and_then_some f (Some x) y h = (x, refl, h)
-
-pub and_then_at : (f : ℕ → Option ℕ) (o : Option ℕ) (x : ℕ) (r : Option ℕ) → o ≡ Some x → f x ≡ r → option_and_then f o ≡ r
-and_then_at f o x r at is = ap (option_and_then f) at ∙ is
 
 -- what is known of who enters a link
 pub record IsEntry (s : Setting) (moment entry : ℕ) : Type 0 where

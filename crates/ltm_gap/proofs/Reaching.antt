@@ -15,8 +15,9 @@ use Rattle.ltm_curve.specs.TotalCurves.{total_at, total_groups}
 use Rattle.ltm_flows.specs.declared.loading.Loading.{Loading}
 use Rattle.ltm_flows.specs.Shown.{curves_of, last_of, step_of, links_of, nodes_of}
 use Rattle.ltm_flows.specs.Counted.{entered_by, left_by}
-use Rattle.ltm_gap.specs.Read.{Suits}
-use Rattle.ltm_gap.specs.Leaving.{end_of, lets_out, may_leave, leaves_from, first_from, first_out}
+use Rattle.ltm_gap.specs.Told.{Suits}
+use Rattle.ltm_gap.specs.Steps.{first_out}
+use Rattle.ltm_gap.specs.Leaving.{end_of, lets_out, may_leave, leaves_from, first_from}
 use Rattle.ltm_gap.proofs.Firsts.{both, left_of, right_of, not_left, not_right, at_most, is_at_most, more, same_first, one_by_one}
 
 pub from_past : (f : ℕ → ℕ) (step slots count from : ℕ) → slots * step < from → None ≡ first_from f step slots count from

@@ -10,8 +10,9 @@ use Rattle.ltm_loading.proofs.Same.{AgreeTo}
 use Rattle.ltm_flows.specs.Origins.{produced_in_all, departed_from}
 use Rattle.ltm_times.proofs.Alike.{entered_same, left_same}
 use Rattle.ltm_times.proofs.DelaysAlike.{departed_from_same}
+use Rattle.ltm_search.specs.Ways.{Ways}
 use Rattle.ltm_gap.specs.Leaving.{leaves, starts}
-use Rattle.ltm_gap.specs.Ways.{Ways, earlier, earliest_below, over, earliest_within}
+use Rattle.ltm_gap.specs.Within.{earlier, earliest_below, over, earliest_within}
 use Rattle.ltm_gap.specs.Earliest.{ways, earliest}
 use Rattle.ltm_gap.specs.Gaps.{produced_in, twice_least, late_of, earliest_to, twice_in, late_in, over_all, least_to, late_to, least, late}
 use Rattle.ltm_gap.proofs.Alike.{LeftAlike, with_leaves, leaves_same, first_from_same}

@@ -1,5 +1,5 @@
 -- What is found in the words of a loading is that of the counts that it shows.
-use Rattle.std.proofs.Common.{◌≡◌, ℕ, ◌+◌, ◌*◌, ◌<◌, ◌≤◌, List, Option, Some, None, IfSome, ap, sym, subst, arith, ◌∙◌}
+use Rattle.std.proofs.Common.{◌≡◌, ℕ, ◌+◌, ◌*◌, ◌<◌, ◌≤◌, List, Option, Some, ap, sym, subst, arith, ◌∙◌}
 use Rattle.std.specs.Prelude.{option_map}
 use Rattle.ltm_units.specs.declared.quantities.Millis.{Millis}
 use Rattle.ltm_curve.specs.Counts.{Counts}
@@ -8,17 +8,18 @@ use Rattle.ltm_loading.specs.Groups.{up_of, down_of, dep_of}
 use Rattle.ltm_loading.specs.Totals.{entered_link, left_link}
 use Rattle.ltm_flows.specs.declared.loading.Loading.{Loading}
 use Rattle.ltm_flows.specs.Shown.{curves_of, last_of, step_of, produced_of, ShowsCounts}
-use Rattle.ltm_flows.specs.Counted.{entered_by, left_by}
+use Rattle.ltm_flows.specs.Counted.{departed_by, entered_by, left_by}
 use Rattle.ltm_flows.specs.Origins.{produced_in_all, departed_from}
 use Rattle.ltm_curve.specs.TotalCurves.{total_at}
-use Rattle.ltm_gap.specs.Leaving.{first_from, leaves, starts}
-use Rattle.ltm_gap.specs.Ways.{IsEarliestFrom}
+use Rattle.ltm_gap.specs.Leaving.{end_of, first_from, leaves, starts}
+use Rattle.ltm_gap.specs.Within.{IsEarliestFrom}
 use Rattle.ltm_gap.specs.Earliest.{ways, earliest}
 use Rattle.ltm_gap.specs.Laws.{EarliestIsFirst}
-use Rattle.ltm_gap.specs.Read.{read_ways, read_starts}
-use Rattle.ltm_gap.specs.Search.{millis_of, arrival_at, last_moment, AreEarliest, HasEarliest}
+use Rattle.ltm_search.specs.Arrivals.{arrival_at, millis_of, AreBy}
+use Rattle.ltm_gap.specs.Told.{Suits}
+use Rattle.ltm_gap.specs.Steps.{read_ways, read_starts, last_moment, HasEarliest}
 use Rattle.ltm_gap.proofs.Alike.{LeftAlike, leaves_same, first_from_same, earliest_same}
-use Rattle.ltm_gap.proofs.Reaching.{is_reached, same_args, small_product}
+use Rattle.ltm_gap.proofs.Reaching.{is_reached, same_args, same_product, small_product}
 use Rattle.ltm_gap.proofs.Within.{one_earliest}
 
 left_alike : (s : Setting) (v : ℕ) (c : Counts) (l : Loading) → 0 < s.step → ShowsCounts s v c l → LeftAlike (read_ways s l) (leaves s c)
@@ -35,7 +36,8 @@ starts_same s v c l origin boundary some shows there within =
     ∙ first_from_same departed (departed_from s c origin) s.step s.slots (produced_in_all s origin boundary) (boundary * s.step) some (λ k low. shows.totals (dep_of s origin) k (omega arith) low)
 
 pub has_earliest : (s : Setting) (l : Loading) (origin boundary : ℕ) (start : Option Millis) (a : List (Option Millis)) → EarliestIsFirst → IsSetting s → origin < s.nodes → boundary ≤ s.slots
-    → option_map (λ (m : Millis). m.0) start ≡ read_starts l origin boundary → AreEarliest (read_ways s l) origin (millis_of start) a → HasEarliest s l origin boundary a
+    → option_map (λ (m : Millis). m.0) start ≡ read_starts l origin boundary
+    → ((node : ℕ) → node < s.nodes → IsEarliestFrom (read_ways s l) origin (millis_of start) node (millis_of (arrival_at a node))) → HasEarliest s l origin boundary a
 has_earliest s l origin boundary start a first is there within started are = λ v c shows node low.
     let from : millis_of start ≡ starts s c origin boundary = started ∙ starts_same s v c l origin boundary is.some_step shows there within in
     let found : IsEarliestFrom (read_ways s l) origin (starts s c origin boundary) node (millis_of (arrival_at a node)) = subst (λ o. IsEarliestFrom (read_ways s l) origin o node (millis_of (arrival_at a node))) from (are node low) in
@@ -43,7 +45,15 @@ has_earliest s l origin boundary start a first is there within started are = λ 
     (earliest_same (read_ways s l) (leaves s c) (left_alike s v c l is.some_step shows) origin (starts s c origin boundary) node (millis_of (arrival_at a node)) found)
     (first s c is shows.loading origin boundary node)
 
--- a moment by the end is small
-pub small_start : (o : Option Millis) (f : ℕ → ℕ) (step slots count from : ℕ) → option_map (λ (m : Millis). m.0) o ≡ first_from f step slots count from → slots ≤ 10000 → step ≤ 60000 → IfSome o (λ (time : Millis). time.0 ≤ last_moment)
-small_start None f step slots count from is few short = tt
-small_start (Some m) f step slots count from is few short = omega (arith, (is_reached f step slots count from m.0 (sym is)).within, small_product slots step few short)
+-- who starts does so by the end
+pub start_within : (s : Setting) (l : Loading) (origin boundary : ℕ) (start : Millis) → Suits s l → Some start.0 ≡ read_starts l origin boundary → start.0 ≤ end_of s
+start_within s l origin boundary start suits is =
+    let reached = is_reached (departed_by l origin) (step_of l) (last_of l) (produced_of l origin boundary) (boundary * step_of l) start.0 (sym is) in
+    subst (λ n. start.0 ≤ n) (same_product (last_of l) s.slots (step_of l) s.step suits.slots suits.step) reached.within
+
+-- arrivals by the end are small
+pub small_by : (s : Setting) (a : List (Option Millis)) → s.slots ≤ 10000 → s.step ≤ 60000 → AreBy (end_of s) a → AreBy last_moment a
+small_by s a few short by = λ node time at.
+    let here = by node time at in
+    let end = small_product s.slots s.step few short in
+    omega arith

@@ -4,8 +4,15 @@ use Rattle.std.specs.Prelude.{option_and_then}
 use Rattle.std.proofs.Math.Nat.{mul-le-mul_right}
 use Rattle.std.proofs.lemmas.Bool.{cases_lt, cases_eq}
 use Rattle.std.proofs.lemmas.Bool.Decides.{nat_tests}
-use Rattle.ltm_gap.specs.Ways.{Ways, AreWays, IsRoute, arrival, IsEarliest, IsEarliestFrom, earlier, earliest_below, over, earliest_within}
-use Rattle.ltm_gap.proofs.Passing.{and_then_some, and_then_at}
+use Rattle.ltm_search.specs.Ways.{Ways, AreWays, IsRoute, arrival, IsEarliest}
+use Rattle.ltm_search.proofs.Passed.{and_then_some, and_then_at, and_link, and_arrival}
+use Rattle.ltm_gap.specs.Within.{IsEarliestFrom, earlier, earliest_below, over, earliest_within}
+
+-- ways of which each takes a step, up to an end
+pub record AreStepped (w : Ways) (step last : ℕ) : Type 0 where
+  pub ways : AreWays w (λ n. last)
+  pub some_step : 1 ≤ step
+  pub steps : (link x y : ℕ) → link < w.links → w.leaves link x ≡ Some y → x + step ≤ y
 
 abbrev pub By : Option ℕ → ℕ → Type 0
 By None time = ⊥
@@ -48,23 +55,6 @@ one_below (suc n) f y is = elim (is_one (earliest_below n f) (f n) y is) [
   | inr here ↦ (n, omega arith, here)
 ]
 
--- ---- routes
--- one link more at the end
-pub and_link : (w : Ways) (links : List ℕ) (from mid link : ℕ) → IsRoute w from mid links → link < w.links → w.tail link ≡ mid → IsRoute w from (w.head link) (links ++ link ∷ [])
-and_link w [] from mid link route low at = (low, at ∙ sym route, refl)
-and_link w (first ∷ links) from mid link route low at = (route.0, route.1, and_link w links (w.head first) mid link route.2 low at)
-
-pub and_arrival : (w : Ways) (links : List ℕ) (link x y exit : ℕ) → arrival w links x ≡ Some y → w.leaves link y ≡ Some exit → arrival w (links ++ link ∷ []) x ≡ Some exit
-and_arrival w [] link x y exit is leaves =
-    let same : x ≡ y = told is in
-    and_then_at (arrival w []) (w.leaves link x) exit (Some exit) (ap (w.leaves link) same ∙ leaves) refl
-  where
-    told : {x y : ℕ} → Some x ≡ Some y → x ≡ y
-    told e = cc
-and_arrival w (first ∷ links) link x y exit is leaves =
-    let next = and_then_some (arrival w links) (w.leaves first x) y is in
-    and_then_at (arrival w (links ++ link ∷ [])) (w.leaves first x) next.0 (Some exit) next.1 (and_arrival w links link next.0 y exit next.2 leaves)
-
 -- ---- each is that of a route
 over_some : (w : Ways) (f : ℕ → Option ℕ) (node link y : ℕ) → over w f node link ≡ Some y → (w.head link ≡ node) × ((x : ℕ) × (f (w.tail link) ≡ Some x) × (w.leaves link x ≡ Some y))
 over_some w f node link y = go (w.head link == node) refl
@@ -105,15 +95,15 @@ more_links w from start n (suc m) node time few by = elim (cases_eq n (suc m)) [
   | inr other ↦ by_left (earliest_within w from start m node) (earliest_below w.links (over w (earliest_within w from start m) node)) time (more_links w from start n m node time (omega arith) by)
 ]
 
-over_by : (w : Ways) (step last : ℕ) → AreWays w step last → (f : ℕ → Option ℕ) (link x exit : ℕ) → link < w.links → By (f (w.tail link)) x → w.leaves link x ≡ Some exit → By (over w f (w.head link) link) exit
+over_by : (w : Ways) (step last : ℕ) → AreStepped w step last → (f : ℕ → Option ℕ) (link x exit : ℕ) → link < w.links → By (f (w.tail link)) x → w.leaves link x ≡ Some exit → By (over w f (w.head link) link) exit
 over_by w step last ways f link x exit low by is =
     let at = by_some (f (w.tail link)) x by in
-    let before = ways.rises link at.0 x exit low at.2 is in
+    let before = ways.ways.rises link at.0 x exit low at.2 is in
     let here : (w.head link == w.head link) ≡ true = grind (arith, nat_tests) in
     subst (λ b. By (if b then option_and_then (w.leaves link) (f (w.tail link)) else None) exit) (sym here)
     (subst (λ o. By o exit) (sym (and_then_at (w.leaves link) (f (w.tail link)) at.0 (Some before.0) at.1 before.1)) before.2)
 
-within_by : (w : Ways) (step last : ℕ) → AreWays w step last → (from : ℕ) (start : Option ℕ) (links : List ℕ) (n node to x exit : ℕ) → IsRoute w node to links → By (earliest_within w from start n node) x
+within_by : (w : Ways) (step last : ℕ) → AreStepped w step last → (from : ℕ) (start : Option ℕ) (links : List ℕ) (n node to x exit : ℕ) → IsRoute w node to links → By (earliest_within w from start n node) x
     → arrival w links x ≡ Some exit → By (earliest_within w from start (length links + n) to) exit
 within_by w step last ways from start [] n node to x exit route by is =
     let same : x ≡ exit = told is in
@@ -133,7 +123,7 @@ within_by w step last ways from start (link ∷ links) n node to x exit route by
     subst (λ m. By (earliest_within w from start m to) exit) e rest
 
 -- a route that arrives has no more links than there are steps
-few_links : (w : Ways) (step last : ℕ) → AreWays w step last → (links : List ℕ) (from to x exit : ℕ) → IsRoute w from to links → x ≤ last → arrival w links x ≡ Some exit
+few_links : (w : Ways) (step last : ℕ) → AreStepped w step last → (links : List ℕ) (from to x exit : ℕ) → IsRoute w from to links → x ≤ last → arrival w links x ≡ Some exit
     → (x + length links * step ≤ exit) × (exit ≤ last)
 few_links w step last ways [] from to x exit route within is = let same : x ≡ exit = told is in (omega arith, omega arith)
   where
@@ -141,10 +131,11 @@ few_links w step last ways [] from to x exit route within is = let same : x ≡ 
     told e = cc
 few_links w step last ways (link ∷ links) from to x exit route within is =
     let next = and_then_some (arrival w links) (w.leaves link x) exit is in
-    let later = ways.later link x next.0 route.0 next.1 in
-    let rest = few_links w step last ways links (w.head link) to next.0 exit route.2 later.1 next.2 in
+    let later = ways.steps link x next.0 route.0 next.1 in
+    let by = ways.ways.within link 0 x next.0 route.0 within next.1 in
+    let rest = few_links w step last ways links (w.head link) to next.0 exit route.2 by next.2 in
     let e : length (link ∷ links) * step ≡ length links * step + step = omega arith in
-    (omega (arith, later.0, rest.0), rest.1)
+    (omega (arith, rest.0), rest.1)
 
 no_more_than : (k slots step : ℕ) → 1 ≤ step → k * step ≤ slots * step → k ≤ slots
 no_more_than k slots step some l = elim (cases_lt slots k) [
@@ -157,7 +148,7 @@ starts_by w from start =
     let here : (from == from) ≡ true = grind (arith, nat_tests) in
     subst (λ b. By (if b then Some start else None) start) (sym here) (omega arith)
 
-pub within_first : (w : Ways) (step slots : ℕ) → AreWays w step (slots * step) → (from start : ℕ) (links : List ℕ) (to exit : ℕ) → start ≤ slots * step → IsRoute w from to links
+pub within_first : (w : Ways) (step slots : ℕ) → AreStepped w step (slots * step) → (from start : ℕ) (links : List ℕ) (to exit : ℕ) → start ≤ slots * step → IsRoute w from to links
     → arrival w links start ≡ Some exit → By (earliest_within w from (Some start) slots to) exit
 within_first w step slots ways from start links to exit within route is =
     let few = few_links w step (slots * step) ways links from to start exit route within is in
@@ -200,7 +191,7 @@ abbrev pub StartsBy : Option ℕ → ℕ → Type 0
 StartsBy None last = Unit {0}
 StartsBy (Some start) last = start ≤ last
 
-pub within_earliest : (w : Ways) (step slots : ℕ) → AreWays w step (slots * step) → (from : ℕ) (start : Option ℕ) (to : ℕ) → StartsBy start (slots * step)
+pub within_earliest : (w : Ways) (step slots : ℕ) → AreStepped w step (slots * step) → (from : ℕ) (start : Option ℕ) (to : ℕ) → StartsBy start (slots * step)
     → IsEarliestFrom w from start to (earliest_within w from start slots to)
 within_earliest w step slots ways from None to within = none_within w from slots to
 within_earliest w step slots ways from (Some start) to within =

@@ -3,7 +3,8 @@ use Rattle.std.specs.Prelude.{ℕ, Option}
 use Rattle.ltm_curve.specs.Counts.{Counts}
 use Rattle.ltm_loading.specs.Setting.{Setting}
 use Rattle.ltm_gap.specs.Leaving.{leaves, starts}
-use Rattle.ltm_gap.specs.Ways.{Ways, earliest_within}
+use Rattle.ltm_search.specs.Ways.{Ways}
+use Rattle.ltm_gap.specs.Within.{earliest_within}
 
 -- the links of a setting as its loading passes them
 abbrev pub ways : Setting → Counts → Ways

@@ -3,8 +3,9 @@ use Rattle.std.specs.Prelude.{ℕ, ◌≡◌, ◌≤◌, List, Some}
 use Rattle.ltm_curve.specs.Counts.{Counts}
 use Rattle.ltm_loading.specs.Setting.{Setting, IsSetting}
 use Rattle.ltm_loading.specs.Loading.{IsLoading}
+use Rattle.ltm_search.specs.Ways.{IsRoute, arrival}
 use Rattle.ltm_gap.specs.Leaving.{starts}
-use Rattle.ltm_gap.specs.Ways.{IsRoute, arrival, IsEarliestFrom}
+use Rattle.ltm_gap.specs.Within.{IsEarliestFrom}
 use Rattle.ltm_gap.specs.Earliest.{ways, earliest}
 
 -- an earliest arrival is that of a route, and none comes before by any route; where there is none, no route arrives by the end

@@ -45,12 +45,3 @@ first_from counts step slots count from = first_below (λ m. nat_le from m && na
 -- who is produced at a boundary starts at the first moment from then on by which as many have departed as were produced
 abbrev pub starts : Setting → Counts → ℕ → ℕ → Option ℕ
 starts s c origin boundary = first_from (departed_from s c origin) s.step s.slots (produced_in_all s origin boundary) (boundary * s.step)
-
--- ---- in slots
--- the first slot from one on with a limit above 0
-unfoldable pub first_open : (ℕ → ℕ) → ℕ → ℕ → Option ℕ
-first_open limit slots from = first_below (λ t. nat_le from t && nat_lt 0 (limit t)) slots
-
--- the first moment from one on at which a link lets out
-unfoldable pub first_out : Setting → ℕ → ℕ → Option ℕ
-first_out s link moment = first_below (λ m. nat_le moment m && lets_out s link m) (end_of s + 1)

@@ -1,9 +1,7 @@
 pub mod Leaving
-pub mod Ways
+pub mod Within
 pub mod Earliest
 pub mod Laws
 pub mod Gaps
-pub mod Read
-pub mod Search
-pub mod Sums
 pub mod Told
+pub mod Steps

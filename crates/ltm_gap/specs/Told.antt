@@ -3,11 +3,18 @@ use Rattle.std.specs.Prelude.{ℕ, ◌≡◌, ◌<◌, length}
 use Rattle.ltm_curve.specs.Counts.{Counts}
 use Rattle.ltm_loading.specs.Setting.{Setting}
 use Rattle.ltm_flows.specs.declared.loading.Loading.{Loading}
-use Rattle.ltm_flows.specs.Shown.{ShowsCounts}
+use Rattle.ltm_flows.specs.Shown.{step_of, last_of, links_of, nodes_of, ShowsCounts}
 use Rattle.ltm_gap.specs.declared.gaps.Gap.{Gap}
 use Rattle.ltm_gap.specs.declared.gaps.Gaps.{Gaps}
-use Rattle.ltm_gap.specs.Sums.{sum_at}
+use Rattle.ltm_gap.specs.Steps.{sum_at}
 use Rattle.ltm_gap.specs.Gaps.{twice_in, late_in, over_all, least_to, late_to, least, late}
+
+-- a loading has the sizes of a setting
+pub record Suits (s : Setting) (l : Loading) : Type 0 where
+  pub step : step_of l ≡ s.step
+  pub slots : last_of l ≡ s.slots
+  pub links : links_of l ≡ s.links
+  pub nodes : nodes_of l ≡ s.nodes
 
 -- a sum for each destination
 pub record AreGaps (s : Setting) (l : Loading) (g : Gaps) : Type 0 where

@@ -4,9 +4,8 @@ ghost use Rattle.ltm_curve.specs.Table.{counts_of};
 ghost use Rattle.ltm_setting.specs.Setting.{setting_of};
 ghost use Rattle.ltm_setting.specs.Places.{IsDestination, IsBoundary, IsShapedFor};
 ghost use Rattle.ltm_gap.specs.Gaps.{spent_to};
-ghost use Rattle.ltm_gap.specs.Read.{Suits};
-ghost use Rattle.ltm_gap.specs.Sums.{no_sum};
-ghost use Rattle.ltm_gap.specs.Told.{AreGaps};
+ghost use Rattle.ltm_gap.specs.Steps.{no_sum};
+ghost use Rattle.ltm_gap.specs.Told.{Suits, AreGaps};
 ghost use Rattle.ltm_units.specs.Sums.{sum_below};
 
 use crate::gaps::Gaps;

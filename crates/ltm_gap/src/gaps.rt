@@ -1,6 +1,6 @@
 //! The least time of those who travel, to each destination and in all.
 ghost use Rattle.std.specs.Prelude.{◌≡◌, ◌<◌, ◌≤◌, ◌^◌, ℕ, length};
-ghost use Rattle.ltm_gap.specs.Sums.{sum_at, AreSums};
+ghost use Rattle.ltm_gap.specs.Steps.{sum_at, AreSums};
 ghost use Rattle.ltm_units.specs.Bounds.{most_destinations};
 
 use crate::sums::Sum;

@@ -2,8 +2,9 @@
 ghost use Rattle.ltm_setting.specs.Setting.{setting_of};
 ghost use Rattle.ltm_gap.specs.Laws.{EarliestIsFirst, NobodyComesBefore};
 ghost use Rattle.ltm_gap.specs.Leaving.{end_of};
-ghost use Rattle.ltm_gap.specs.Read.{Suits, ways_of};
-ghost use Rattle.ltm_gap.specs.Ways.{AreWays};
+ghost use Rattle.ltm_gap.specs.Told.{Suits};
+ghost use Rattle.ltm_gap.specs.Steps.{ways_of};
+ghost use Rattle.ltm_search.specs.Ways.{AreWays};
 
 use ltm_flows::Loading;
 use ltm_loading::never_fall;
@@ -24,11 +25,10 @@ pub fn nobody_comes_before()
     earliest_is_first();
 }
 
-/// Who passes a link takes a step at least, and who comes to it later leaves it no sooner. Costs nothing when it runs.
+/// Who passes a link comes later, by the end, and who comes to it later leaves it no sooner. Costs nothing when it runs.
 pub(crate) fn are_ways(scenario: &Scenario, loading: &Loading)
     requires { Suits (setting_of scenario.now) loading.now }
-    ensures { AreWays (ways_of scenario.now loading.now) (setting_of scenario.now).step
-        (end_of (setting_of scenario.now)) }
+    ensures { AreWays (ways_of scenario.now loading.now) (λ n. end_of (setting_of scenario.now)) }
 {
     is_setting(scenario);
     let _curves = loading.curves();

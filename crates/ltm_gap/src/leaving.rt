@@ -6,10 +6,10 @@ ghost use Rattle.ltm_flows.specs.Shown.{curves_of, last_of, step_of, links_of, n
 ghost use Rattle.ltm_flows.specs.Counted.{entered_by, left_by};
 ghost use Rattle.ltm_setting.specs.Places.{IsLink, IsNode, IsBoundary};
 ghost use Rattle.ltm_setting.specs.Setting.{setting_of};
-ghost use Rattle.ltm_gap.specs.Leaving.{end_of, enters, leaves_from, first_from, first_open, first_out, open_moment};
+ghost use Rattle.ltm_gap.specs.Leaving.{end_of, enters, leaves_from, first_from, open_moment};
 ghost use Rattle.ltm_units.specs.Bounds.{longest_step};
-ghost use Rattle.ltm_gap.specs.Read.{Suits, read_leaves, read_starts};
-ghost use Rattle.ltm_gap.specs.Search.{last_moment};
+ghost use Rattle.ltm_gap.specs.Told.{Suits};
+ghost use Rattle.ltm_gap.specs.Steps.{first_open, first_out, last_moment, read_leaves, read_starts};
 
 use ltm_flows::Loading;
 use ltm_loading::{dep_behind, down_of, up_of};

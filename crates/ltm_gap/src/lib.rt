@@ -1,7 +1,7 @@
 //! - **What it is**: the gap of a loading: what those who travel spend, and the least that they could at the link times of
 //!   this loading, by the earliest arrival of each over all routes of the network.
 //! - **On what it stands**: `ltm_flows` and `ltm_times` for the loading and its curves, `ltm_setting` for the links, their
-//!   limits and the demand.
+//!   limits and the demand, `ltm_search` for the search.
 //! - **What a call costs**: for each origin and each boundary beside a slot in which it produces something, one search: a look
 //!   at each link that is reached, some divisions and a halving over boundaries. Memory of two searches and of a sum for each
 //!   destination, taken once.

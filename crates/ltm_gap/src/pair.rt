@@ -1,17 +1,18 @@
 //! Two searches, from the two ends of a slot, and what they give of those who are produced in it.
 ghost use Rattle.std.specs.Prelude.{◌≡◌, ◌<◌, ◌≤◌, ◌+◌, ◌*◌, ◌^◌, ℕ, length, OnOk, IfOk, false};
+ghost use Rattle.ltm_search.specs.Arrivals.{arrivals_of};
 ghost use Rattle.ltm_setting.specs.Setting.{setting_of};
 ghost use Rattle.ltm_setting.specs.Places.{IsDestination, IsNode, IsSlot};
 ghost use Rattle.ltm_gap.specs.Gaps.{produced_in};
-ghost use Rattle.ltm_gap.specs.Search.{AreSmall};
-ghost use Rattle.ltm_gap.specs.Read.{Suits};
-ghost use Rattle.ltm_gap.specs.Sums.{AreSums, IsMore, twice_at, late_at, AddsSlot, AddsSlots, IsFrom, IsPair, IsIdle};
+ghost use Rattle.ltm_gap.specs.Told.{Suits};
+ghost use Rattle.ltm_gap.specs.Steps.{IsFilled, IsFrom, IsPair, IsFound, IsIdle, AreSums, IsMore, twice_at, late_at, AddsSlot, AddsSlots};
 ghost use Rattle.ltm_units.specs.Bounds.{longest_step, most_produced, most_slots};
 
-use crate::search::Search;
+use crate::search::find;
 use crate::sums::{At, Sum};
 use ltm_flows::Loading;
 use ltm_scenario::Scenario;
+use ltm_search::Search;
 use ltm_setting::{
     destination_count, is_setting, node_count, produced, produced_total, slot_count, step,
 };
@@ -66,72 +67,12 @@ fn units_in(scenario: &Scenario, origin: NodeId, destination: u32, slot: u32) ->
     produced(scenario, origin, destination, slot + 1).saturating_sub(before)
 }
 
-/// A sum with those who are produced at an origin for a destination in a slot, from the arrivals of who is produced at its
-/// two ends.
-fn sum_with(
-    scenario: &Scenario,
-    origin: NodeId,
-    destination: u32,
-    slot: u32,
-    first: &Search,
-    last: &Search,
-    sum: Sum,
-) -> Sum
-    requires destination { IsDestination scenario.now destination }
-    requires slot { IsSlot scenario.now slot }
-    requires first_long { length first.now.arrivals.items ≡ (setting_of scenario.now).nodes }
-    requires last_long { length last.now.arrivals.items ≡ (setting_of scenario.now).nodes }
-    requires first_small { AreSmall first.now.arrivals.items }
-    requires last_small { AreSmall last.now.arrivals.items }
-    requires twice_room { sum.twice ≤ 2 ^ 120 }
-    requires late_room { sum.late ≤ 2 ^ 120 }
-    ensures { IsMore (twice_at (setting_of scenario.now) origin.0 slot first.now.arrivals.items
-        last.now.arrivals.items destination)
-        (late_at (setting_of scenario.now) origin.0 slot first.now.arrivals.items
-        last.now.arrivals.items destination) sum result }
-{
-    let at = at_slot(scenario, slot);
-    let units = units_in(scenario, origin, destination, slot);
-    let place = place_of(scenario, destination);
-    sum.with(units, at, first.arrival(place), last.arrival(place))
-}
-
-/// Adds those who are produced at an origin in a slot, from the arrivals of who is produced at its two ends.
-fn add_units(
-    scenario: &Scenario,
-    loading: &Loading,
-    origin: NodeId,
-    slot: u32,
-    first: &Search,
-    last: &Search,
-    sums: &mut Vec<Sum>,
-)
-    requires suits { Suits (setting_of scenario.now) loading.now }
-    requires origin { IsNode scenario.now origin.0 }
-    requires slot { IsSlot scenario.now slot }
-    requires first { IsFrom (setting_of scenario.now) loading.now origin.0 slot first.now }
-    requires last { IsFrom (setting_of scenario.now) loading.now origin.0 (slot + 1) last.now }
-    requires count { length sums.old.items ≡ (setting_of scenario.now).destinations }
-    requires room { AreSums (2 ^ 30) sums.old.items }
-    ensures count { length sums.new.items ≡ length sums.old.items }
-    ensures adds { AddsSlot (setting_of scenario.now) loading.now origin.0 slot
-        sums.old.items sums.new.items }
-    ensures small { (parts : ℕ) → AreSums parts sums.old.items → AreSums (parts + 1) sums.new.items }
-{
-    is_setting(scenario);
-    for destination in 0..destination_count(scenario) {
-        let sum = sums[destination as usize];
-        let more = sum_with(scenario, origin, destination, slot, first, last, sum);
-        sums[destination as usize] = more;
-    }
-}
-
 impl Pair {
     pub(crate) fn create(alloc: Global, scenario: &Scenario) -> Result<Pair, NoMemory>
         ensures { IfOk result (IsIdle (setting_of scenario.now)) }
     {
-        let first = Search::create(alloc, scenario)?;
-        let last = Search::create(alloc, scenario)?;
+        let first = Search::create(alloc, node_count(scenario))?;
+        let last = Search::create(alloc, node_count(scenario))?;
         Ok(Pair {
             first,
             last,
@@ -158,7 +99,65 @@ impl Pair {
         if self.known {
             return Ok(());
         }
-        self.first.run(scenario, loading, origin, slot)
+        find(&mut self.first, scenario, loading, origin, slot)
+    }
+
+    /// A sum with those who are produced at an origin for a destination in a slot.
+    fn sum_with(
+        &self,
+        scenario: &Scenario,
+        origin: NodeId,
+        destination: u32,
+        slot: u32,
+        sum: Sum,
+    ) -> Sum
+        requires destination { IsDestination scenario.now destination }
+        requires slot { IsSlot scenario.now slot }
+        requires first { IsFilled (setting_of scenario.now) self.now.first }
+        requires last { IsFilled (setting_of scenario.now) self.now.last }
+        requires twice_room { sum.twice ≤ 2 ^ 120 }
+        requires late_room { sum.late ≤ 2 ^ 120 }
+        ensures { IsMore (twice_at (setting_of scenario.now) origin.0 slot (arrivals_of self.now.first)
+            (arrivals_of self.now.last) destination)
+            (late_at (setting_of scenario.now) origin.0 slot (arrivals_of self.now.first)
+            (arrivals_of self.now.last) destination) sum result }
+    {
+        let at = at_slot(scenario, slot);
+        let units = units_in(scenario, origin, destination, slot);
+        let place = place_of(scenario, destination);
+        sum.with(
+            units,
+            at,
+            self.first.arrival(place),
+            self.last.arrival(place),
+        )
+    }
+
+    /// Adds those who are produced at an origin in a slot.
+    fn add_units(
+        &self,
+        scenario: &Scenario,
+        loading: &Loading,
+        origin: NodeId,
+        slot: u32,
+        sums: &mut Vec<Sum>,
+    )
+        requires suits { Suits (setting_of scenario.now) loading.now }
+        requires origin { IsNode scenario.now origin.0 }
+        requires slot { IsSlot scenario.now slot }
+        requires pair { IsFound (setting_of scenario.now) loading.now origin.0 slot self.now }
+        requires count { length sums.old.items ≡ (setting_of scenario.now).destinations }
+        requires room { AreSums (2 ^ 30) sums.old.items }
+        ensures count { length sums.new.items ≡ length sums.old.items }
+        ensures adds { AddsSlot (setting_of scenario.now) loading.now origin.0 slot
+            sums.old.items sums.new.items }
+        ensures small { (parts : ℕ) → AreSums parts sums.old.items → AreSums (parts + 1) sums.new.items }
+    {
+        is_setting(scenario);
+        for destination in 0..destination_count(scenario) {
+            let sum = sums[destination as usize];
+            sums[destination as usize] = self.sum_with(scenario, origin, destination, slot, sum);
+        }
     }
 
     /// Finds the arrivals from both ends of a slot, and adds those who are produced in it.
@@ -184,16 +183,8 @@ impl Pair {
         ensures small { OnOk result ((parts : ℕ) → AreSums parts sums.old.items → AreSums (parts + 1) sums.new.items) }
     {
         self.find_first(scenario, loading, origin, slot)?;
-        self.last.run(scenario, loading, origin, slot + 1)?;
-        add_units(
-            scenario,
-            loading,
-            origin,
-            slot,
-            &self.first,
-            &self.last,
-            sums,
-        );
+        find(&mut self.last, scenario, loading, origin, slot + 1)?;
+        self.add_units(scenario, loading, origin, slot, sums);
         mem::swap(&mut self.first, &mut self.last);
         self.known = true;
         Ok(())

@@ -2,7 +2,8 @@
 ghost use Rattle.std.specs.Prelude.{◌≡◌, ◌<◌, ◌≤◌, ◌+◌, ◌*◌, ◌^◌, IfSome};
 ghost use Rattle.ltm_units.specs.Bounds.{longest_step, most_produced, most_slots};
 ghost use Rattle.ltm_gap.specs.Gaps.{twice_least, late_of};
-ghost use Rattle.ltm_gap.specs.Search.{last_moment, millis_of};
+ghost use Rattle.ltm_search.specs.Arrivals.{millis_of};
+ghost use Rattle.ltm_gap.specs.Steps.{last_moment};
 
 use ltm_units::Millis;
 

@@ -3,7 +3,7 @@ ghost use Rattle.std.specs.Prelude.{◌≡◌, ◌++◌, ◌+◌, ◌∷◌, [],
 ghost use Rattle.ltm_curve.specs.Counts.{Counts};
 ghost use Rattle.ltm_setting.specs.Setting.{setting_of};
 ghost use Rattle.ltm_flows.specs.Shown.{ShowsCounts};
-ghost use Rattle.ltm_gap.specs.Read.{Suits};
+ghost use Rattle.ltm_gap.specs.Told.{Suits};
 ghost use Rattle.ltm_report.specs.Gaps.{gap_piece, late_piece, gap_pieces, gap_line, gap_to_line};
 ghost use Rattle.ltm_report.specs.GapReports.{gap_report};
 

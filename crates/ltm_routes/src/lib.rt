@@ -1,6 +1,7 @@
 //! - **What it is**: the least free-flow times from each node to a destination, the split rows that send traffic along the
 //!   routes that take them, and a test of such times that looks at links alone.
-//! - **On what it stands**: `ltm_scenario`, of which it reads the network and the diagrams, and to which it adds split rows.
+//! - **On what it stands**: `ltm_scenario`, of which it reads the network and the diagrams, and to which it adds split rows;
+//!   `ltm_search` for the search.
 //! - **What a call costs**: the routes to a destination cost about `(links + nodes) log nodes` steps, and memory for a heap and
 //!   two tables; `verify` passes over the links and nodes once and takes no memory.
 //! - **For callers outside**: `verify` and `set_routes`; the program finds all routes first, and then writes or sets them.

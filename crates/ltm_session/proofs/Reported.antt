@@ -11,7 +11,7 @@ use Rattle.ltm_flows.specs.Shown.{ShowsCounts, version_of, links_of, nodes_of, l
 use Rattle.ltm_script.specs.declared.command.Command.TheVariants as command
 use Rattle.ltm_script.specs.declared.command.Question.{Question}
 use Rattle.ltm_script.specs.declared.command.Question.TheVariants as question
-use Rattle.ltm_gap.specs.Read.{Suits}
+use Rattle.ltm_gap.specs.Told.{Suits}
 use Rattle.ltm_report.specs.GapReports.{gap_report}
 use Rattle.ltm_times.specs.Times.{travel_time}
 use Rattle.ltm_report.specs.Times.{time_line}

@@ -4,7 +4,7 @@ use Rattle.ltm_units.specs.Sums.{sum_below}
 use Rattle.ltm_loading.specs.Setting.{Setting}
 use Rattle.ltm_setting.specs.Setting.{setting_of}
 use Rattle.ltm_gap.specs.Gaps.{twice_in, late_in}
-use Rattle.ltm_gap.specs.Sums.{no_sum, AddsOrigins}
+use Rattle.ltm_gap.specs.Steps.{no_sum, AddsOrigins}
 use Rattle.ltm_gap.proofs.Adding.{adds_more, sums_more, are_gaps}
 use Rattle.ltm_gap.proofs.finding.gaps_of.Goals as goal
 

@@ -1,7 +1,7 @@
 use Rattle.std.proofs.Common.{◌≡◌, ◌*◌, length, replicate}
 use Rattle.ltm_units.specs.Bounds.{most_slots}
 use Rattle.ltm_setting.specs.Setting.{setting_of}
-use Rattle.ltm_gap.specs.Sums.{no_sum, AreSums, AddsOrigins, IsIdle}
+use Rattle.ltm_gap.specs.Steps.{no_sum, AreSums, AddsOrigins, IsIdle}
 use Rattle.ltm_gap.proofs.finding.gaps_of.Given as goal
 
 abbrev pub invariant-loop-origin : goal.invariant-loop-origin

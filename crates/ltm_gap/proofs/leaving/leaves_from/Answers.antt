@@ -5,7 +5,7 @@ use Rattle.ltm_loading.specs.Setting.{Setting}
 use Rattle.ltm_setting.specs.Setting.{setting_of}
 use Rattle.ltm_flows.specs.declared.loading.Loading.{Loading}
 use Rattle.ltm_flows.specs.Shown.{curves_of, last_of, step_of}
-use Rattle.ltm_gap.specs.Leaving.{first_out}
+use Rattle.ltm_gap.specs.Steps.{first_out}
 use Rattle.ltm_gap.proofs.Reaching.{is_reached, leaves_as_read, small_product}
 use Rattle.ltm_gap.proofs.leaving.leaves_from.Goals as goal
 

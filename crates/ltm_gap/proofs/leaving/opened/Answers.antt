@@ -1,5 +1,5 @@
 use Rattle.std.proofs.Common.{ℕ, ◌≡◌, ◌<◌, ◌*◌, Some, None, arith, ap, sym, subst, ◌∙◌}
-use Rattle.ltm_gap.specs.Leaving.{first_open}
+use Rattle.ltm_gap.specs.Steps.{first_open}
 use Rattle.ltm_gap.proofs.Opening.{open_never, open_here, open_later, later_slot}
 use Rattle.ltm_gap.proofs.leaving.opened.Goals as goal
 

@@ -1,6 +1,6 @@
 use Rattle.std.proofs.Common.{◌≡◌, ◌≤◌, ◌*◌, ◌/◌, ◌^◌}
 use Rattle.ltm_units.specs.Sums.{sum_below}
-use Rattle.ltm_gap.specs.Sums.{sum_at}
+use Rattle.ltm_gap.specs.Steps.{sum_at}
 use Rattle.ltm_gap.proofs.gaps.Gaps.all.Given as goal
 
 abbrev pub invariant-loop-destination : goal.invariant-loop-destination

@@ -4,7 +4,7 @@ use Rattle.ltm_units.specs.Bounds.{most_slots}
 use Rattle.ltm_loading.specs.Setting.{Setting}
 use Rattle.ltm_setting.specs.Setting.{setting_of}
 use Rattle.ltm_gap.specs.Gaps.{twice_in, late_in}
-use Rattle.ltm_gap.specs.Sums.{AddsSlots}
+use Rattle.ltm_gap.specs.Steps.{AddsSlots}
 use Rattle.ltm_gap.proofs.Adding.{adds_more, sums_more}
 use Rattle.ltm_gap.proofs.pair.Pair.add_origin.Goals as goal
 

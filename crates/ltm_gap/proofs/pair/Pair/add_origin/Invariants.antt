@@ -1,6 +1,6 @@
 use Rattle.std.proofs.Common.{◌≡◌, ◌+◌, ℕ, length}
 use Rattle.ltm_setting.specs.Setting.{setting_of}
-use Rattle.ltm_gap.specs.Sums.{AreSums, AddsSlots, IsPair}
+use Rattle.ltm_gap.specs.Steps.{AreSums, AddsSlots, IsPair}
 use Rattle.ltm_gap.proofs.pair.Pair.add_origin.Given as goal
 
 abbrev pub invariant-loop-slot : goal.invariant-loop-slot

@@ -1,9 +1,0 @@
-use Rattle.std.proofs.Common.{arith}
-use Rattle.ltm_setting.specs.Setting.{setting_of}
-use Rattle.ltm_gap.proofs.Adding.{slot_added}
-use Rattle.ltm_gap.proofs.pair.add_units.Goals as goal
-
-pub returns-clause-adds : goal.returns-clause-adds
-returns-clause-adds c =
-    slot_added (setting_of c.args.scenario.now) c.args.loading.now c.args.origin.0 c.args.slot c.args.first.now c.args.last.now c.loop-destination.destination c.args.sums.now.items c.loop-destination.sums.items
-    c.is_setting.ensures.setting.network c.requires.first c.requires.last (omega arith) c.loop-destination.invariant
