@@ -6,7 +6,7 @@ use Rattle.ltm_units.specs.declared.quantities.Millis.{Millis}
 use Rattle.ltm_routes.specs.Roads.{Roads, AreRoads}
 use Rattle.ltm_routes.specs.Routes.{IsRoute, time_of, IsLeastTime}
 use Rattle.ltm_routes.specs.Potentials.{potential_at, AreLeastTimes, AllFit, AllLeadOn, LeadsOn, is_zero, fits, is_tight}
-use Rattle.ltm_routes.proofs.Least.{least_times}
+use Rattle.ltm_routes.proofs.Backward.{fit_least}
 
 zero_is : (o : Option Millis) (t : Millis) → is_zero o ≡ true → o ≡ Some t → 0 ≡ t.0
 zero_is o t z is = go t (subst (λ x. is_zero x ≡ true) is z)
@@ -50,7 +50,7 @@ walk r p to roads start leads (suc bound) from time low there is =
 
 pub tight_least : (r : Roads) (p : List (Option Millis)) (to : ℕ) → AreRoads r → is_zero (potential_at p to) ≡ true → AllFit r p → AllLeadOn r to p → AreLeastTimes r to p
 tight_least r p to roads start fit leads =
-    least_times r p to start fit (λ node time there is. walk r p to roads start leads (suc time.0) node time (omega arith) there is)
+    fit_least r p to roads start fit (λ node time there is. walk r p to roads start leads (suc time.0) node time (omega arith) there is)
 
 -- ---- and least times fit and are tight
 least_start : (r : Roads) (to : ℕ) (o : Option Millis) → IsLeastTime r to to o → is_zero o ≡ true

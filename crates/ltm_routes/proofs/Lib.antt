@@ -1,8 +1,7 @@
 pub mod Kept
-pub mod Least
-pub mod Exact
 pub mod Out
 pub mod Backward
+pub mod Exact
 pub mod Flags
 pub mod Rows
 pub mod Placed
