@@ -242,6 +242,30 @@ class InABrowser(BrowserTest):
         rows = "return [...document.querySelectorAll('#list tbody tr')].map(row => row.cells[0].textContent)"
         self.assertEqual(self.browser.run(rows), ["a"])
 
+    def test_a_link_with_its_turns_is_one(self) -> None:
+        case = self.folder / "case"
+        shutil.copytree(DATA / "spillback", case)
+        (case / "source_links.csv").write_text("source,from,to,link\nMain,1,4,a\nMain,1,4,b\n")
+        (case / "source_nodes.csv").write_text("source,node\n1,n1\n4,n3\n")
+        words = (str(case), "--curves", str(case / "curves.csv"), "--least", "0.001")
+        self.browser.open(write_page(self.folder, *words))
+        rows = "return [...document.querySelectorAll('#list tbody tr')].map(row => row.cells[0].textContent)"
+        self.assertEqual(self.browser.run(rows), ["n1 (origin)", "Main"])
+        # of 5.0 that have entered a 2.4 have left b by the last moment, 16 s, and 2.6 are between
+        self.assertEqual(self.browser.run("const told = ltm.curvesOf(ltm.cases[0], 'Main');"
+                                          "return [...told.upper, told.lower[0]].map(each => each[2].at(-1))"),
+                         [5000, 2400, 2600])
+        self.browser.click(*self.browser.run("return ltm.middle('a')"))
+        self.assertEqual(self.text("#link h2"), "Link Main from n1 to n2, 20 m, with b")
+        self.browser.run("document.querySelector('#joined input').click()")
+        self.assertEqual(self.browser.run(rows), ["n1 (origin)", "a"])
+        self.browser.click(*self.browser.run("return ltm.middle('a')"))
+        self.assertEqual(self.text("#link h2"), "Link a from n1 to n2, 20 m")
+        self.browser.open(write_page(self.folder, *words, "--each-link"))
+        self.assertEqual((self.browser.run(rows), self.browser.run("return document.getElementById('joined').hidden")),
+                         (["n1 (origin)", "a"], True))
+        self.assertEqual(self.browser.console(), [])
+
     def test_two_cases(self) -> None:
         self.browser.open(write_page(self.folder, str(DATA / "base"), str(DATA / "base_signals"),
                                      *with_curves("base")[1:], *with_curves("base_signals", True)[1:]))

@@ -10,7 +10,7 @@ from ..formats import units_of
 from ..loading.curves import Summed
 from ..loading.loaded import Loaded, loaded
 from ..show.page import find_d3, page
-from .arguments import add_curves_arguments, add_start_argument
+from .arguments import add_curves_arguments, add_each_link_argument, add_start_argument
 
 NAME = "page"
 SUMMARY = "write one HTML file that shows the network over time, the curves of each link, and the table of queues"
@@ -33,6 +33,7 @@ def add_arguments(parser: argparse.ArgumentParser) -> None:
     add_start_argument(parser)
     parser.add_argument("--least", metavar="VEHICLES", default="1",
                         help="how many vehicles make a queue in the table (1)")
+    add_each_link_argument(parser)
     parser.add_argument("--names", metavar="NAME", nargs=2, help="what the two cases are called on the switch")
     parser.add_argument("--title", help="the title (else the folder's name)")
     parser.add_argument("--d3", metavar="FILE", help="the library d3 (else $LTM_D3, or that of Debian's package"
@@ -49,5 +50,6 @@ def run(args: argparse.Namespace) -> int:
     called = [os.path.basename(os.path.abspath(folder)) for folder in folders]
     names = [readable(name) for name in args.names or called]
     title = readable(args.title or called[0])
-    write_text(args.output, page(both, folders, names, start, max(1, units_of(args.least)), title, library))
+    write_text(args.output, page(both, folders, names, start, max(1, units_of(args.least)), title, library,
+                                 args.each_link))
     return 0

@@ -5,6 +5,7 @@ from collections.abc import Sequence
 
 from ..case import Case, Link
 from ..case.places import Places, read_places
+from ..loading.approaches import Approaches
 from ..network.source import parts_of
 from . import layout
 
@@ -42,6 +43,12 @@ def told_network(folder: str, case: Case, places: Places, bent: bool) -> dict[st
                    **({"source": parts[link.name]} if link.name in parts else {})}
                   for link, bend in zip(case.links, bends)],
     }
+
+
+def numbered(case: Case, approaches: Approaches) -> dict[str, list[int]]:
+    """Links with their turns by the numbers of links."""
+    number = {link.name: index for index, link in enumerate(case.links)}
+    return {name: [number[link] for link in links] for name, links in approaches.items()}
 
 
 def shape_of(places: Places, link: Link) -> dict[str, object]:

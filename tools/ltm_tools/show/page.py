@@ -18,7 +18,8 @@ from ..loading import delay
 from ..loading.counts import Counts, as_list, total
 from ..loading.loaded import Loaded
 from ..loading.queues import Queue, queues
-from .network import placed, told_network
+from ..network.source import approaches_of
+from .network import numbered, placed, told_network
 
 WEB = Path(__file__).resolve().parent / "web"
 SHARED_SCRIPTS = ("numbers.js", "names.js", "map.js", "chart.js", "table.js", "play.js")  # of every page, in this order
@@ -54,9 +55,10 @@ def flows(rows: list[Counts]) -> str:
 
 
 def told_case(one: Loaded, folder: str, name: str, start: int, least: int, places: Places, bent: bool,
-              unit: TimeUnit) -> dict[str, object]:
+              unit: TimeUnit, each_link: bool) -> dict[str, object]:
     """All that the page has to know of a loading."""
     case, curves = one
+    approaches = {} if each_link else approaches_of(folder, case.links)
     number = {node: index for index, node in enumerate(case.nodes)}
     both = [delay.checked(curves, link) for link in case.links]
     rows = delay.demand_of(case)
@@ -69,6 +71,8 @@ def told_case(one: Loaded, folder: str, name: str, start: int, least: int, place
         "entered": flows([up for up, _ in both]), "left": flows([down for _, down in both]),
         "departed": flows([departed(one, node) for node in rows]),
         "queues": [told_queue(queue, unit) for queue in queues(curves, case, least)],
+        **({"joined": [told_queue(queue, unit) for queue in queues(curves, case, least, approaches)],
+            "approaches": numbered(case, approaches)} if approaches else {}),
         "totals": totals(one, told, unit),
     }
 
@@ -103,13 +107,14 @@ def busiest(one: Loaded) -> int:
 
 
 def page(both: list[Loaded], folders: list[str], names: list[str], start: int, least: int, title: str,
-         library: str) -> str:
-    """The text of the page."""
+         library: str, each_link: bool = False) -> str:
+    """The text of the page; links that were cut before a crossing are told with their turns, or with `each_link` each
+    by itself alone."""
     places, bent = placed(folders, [one.case for one in both])
     reports = [delay.report(one.curves, one.case) for one in both]
     unit = time_unit(*(report.spent for report in reports))
     told = {"title": title, "least": format(vehicles(least), "f"), "unit": unit.name, "boundary": busiest(both[0]),
-            "cases": [told_case(one, folders[index], name, start, least, places[index], bent, unit)
+            "cases": [told_case(one, folders[index], name, start, least, places[index], bent, unit, each_link)
                       for index, (one, name) in enumerate(zip(both, names))]}
     styles, scripts = ("".join(read_text(WEB / name) for name in names)
                        for names in (("shared.css", "page.css"), (*SHARED_SCRIPTS, "page.js")))

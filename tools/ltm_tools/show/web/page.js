@@ -3,7 +3,7 @@
 (() => {
   const data = JSON.parse(document.getElementById("data").textContent), { vehicles, clockOf } = ltmNumbers, TALL = [190, 130];
   const cases = data.cases.map(read);
-  const state = { at: 0, boundary: 0, chosen: null, shown: "queue", found: "" };
+  const state = { at: 0, boundary: 0, chosen: null, shown: "queue", found: "", joined: true };
   const here = () => cases[state.at], here_k = () => Math.min(state.boundary, here().slots);
 
   // ---- numbers
@@ -28,6 +28,8 @@
       departed: counts(told.departed, origins.length, slots) };
     Object.assign(one, ltmNames.of(told));
     one.originOf = new Map(origins.map((origin, index) => [origin.name, index]));
+    one.groupOf = new Map(Object.entries(told.approaches || {}));
+    one.groupFrom = new Map([...one.groupOf].map(([name, links]) => [links[0], name]));
     one.originAt = new Map(origins.map((origin, index) => [origin.node, index]));
     return one;
   }
@@ -46,6 +48,9 @@
   }
 
   const waiting = (one, origin, k) => produced(one, origin, k) - one.departed[origin * one.wide + k];
+  // The links by a name: with its turns one that was cut before a crossing.
+  const linksOf = (one, name) => state.joined && one.groupOf.get(name) || (one.linkOf.has(name) ? [one.linkOf.get(name)] : []);
+  const titleOf = link => state.joined && here().groupFrom.get(link) || here().links[link].name;
   const clock = (one, k) => clockOf(one.start + k * one.step);
 
   // ---- the map
@@ -56,29 +61,35 @@
     networks: cases, network: here, scale: () => "warm", waiting: waits,
     part: link => Math.max(0, (state.shown === "queue" ? queue : standing)(here(), link, here_k()) / here().links[link].storage),
     chosen: () => {
-      const one = here(), link = one.linkOf.get(state.chosen), origin = one.originOf.get(state.chosen);
+      const one = here(), link = linksOf(one, state.chosen)[0], origin = one.originOf.get(state.chosen);
       return link !== undefined ? { link } : origin !== undefined ? { node: one.origins[origin].node } : {};
     },
     nodeFirst: node => waits(node) > 0 ? true : null,
     tell: what => what.link !== undefined ? `${nameOf(what)}: ${vehicles(standing(here(), what.link, here_k()))} on it, ${vehicles(queue(here(), what.link, here_k()))} in the queue`
       : what.node !== undefined ? `origin ${nameOf(what)}: ${vehicles(waits(what.node))} wait` : "",
-    choose: what => choose(nameOf(what)),
+    choose: what => choose(what.link !== undefined ? titleOf(what.link) : nameOf(what)),
   });
 
   // ---- the curves of a link
 
   function curvesOf(one, name) {
-    const link = one.linkOf.get(name), origin = one.originOf.get(name), ks = d3.range(one.wide);
-    if (link !== undefined) {
-      return { title: `Link ${name}`, under: `from ${one.nodes[one.links[link].tail].name} to ${one.nodes[one.links[link].head].name}, ${one.links[link].length} m`,
-        upper: [["entered", "var(--entered)", ks.map(k => up(one, link, k))], ["left", "var(--left)", ks.map(k => down(one, link, k))]],
-        lower: [["on the link", "var(--standing)", ks.map(k => standing(one, link, k))], ["queue", "var(--queue)", ks.map(k => queue(one, link, k))]], bound: one.links[link].storage };
+    const links = linksOf(one, name), origin = one.originOf.get(name), ks = d3.range(one.wide);
+    if (links.length) {
+      const ends = key => new Set(links.map(link => one.links[link][key])), heads = ends("head"), tails = ends("tail");
+      const first = links.filter(link => !heads.has(one.links[link].tail)), last = links.filter(link => !tails.has(one.links[link].head));
+      const sum = (some, of) => ks.map(k => d3.sum(some, link => of(one, link, k)));
+      return { title: `Link ${name}`, under: underOf(one, links),
+        upper: [["entered", "var(--entered)", sum(first, up)], ["left", "var(--left)", sum(last, down)]],
+        lower: [["on the link", "var(--standing)", sum(links, standing)], ["queue", "var(--queue)", sum(links, queue)]], bound: d3.sum(links, link => one.links[link].storage) };
     }
     if (origin === undefined) return null;
     return { title: `Origin ${name}`, under: "who has set out, and who has found room on a link",
       upper: [["produced", "var(--entered)", ks.map(k => produced(one, origin, k))], ["departed", "var(--left)", ks.map(k => one.departed[origin * one.wide + k])]],
       lower: [["waiting", "var(--queue)", ks.map(k => waiting(one, origin, k))]], bound: null };
   }
+
+  const underOf = (one, [link, ...turns]) => `from ${one.nodes[one.links[link].tail].name} to ${one.nodes[one.links[link].head].name}, ${one.links[link].length} m`
+    + (turns.length ? `, with ${turns.map(turn => one.links[turn].name).join(", ")}` : "");
 
   function drawLink() {
     const box = d3.select("#link"), one = here(), told = state.chosen === null ? null : curvesOf(one, state.chosen);
@@ -115,7 +126,8 @@
 
   function drawTable() {
     const words = state.found.toLowerCase(), one = here();
-    const rows = one.queues.filter(row => row.kind === "origin" ? row.name.toLowerCase().includes(words) : one.isCalled(one.linkOf.get(row.name), words));
+    const isCalled = row => row.name.toLowerCase().includes(words) || row.kind === "link" && linksOf(one, row.name).some(link => one.isCalled(link, words));
+    const rows = (state.joined && one.joined || one.queues).filter(isCalled);
     document.getElementById("count").textContent = `${rows.length} of at least ${data.least} vehicles; delay in ${data.unit}` + (rows.length > table.most ? `; the first ${table.most}` : "");
     table.show(rows);
   }
@@ -154,15 +166,18 @@
     document.getElementById("search").addEventListener("input", event => { state.found = event.target.value; drawTable(); });
     document.getElementById("search").addEventListener("keydown", event => {
       const one = here(), name = event.target.value, link = one.linkNamed(name);
-      if (event.key === "Enter" && (link !== undefined || one.originOf.has(name))) choose(link !== undefined ? one.links[link].name : name);
+      if (event.key === "Enter" && (link !== undefined || one.groupOf.has(name) || one.originOf.has(name))) choose(link !== undefined && !(state.joined && one.groupOf.has(name)) ? titleOf(link) : name);
     });
+    const joined = document.getElementById("joined");
+    joined.hidden = !cases.some(one => one.joined);
+    joined.addEventListener("change", event => { state.joined = event.target.checked; choose(null); drawTable(); });
     map.measure();
     turnTo(0);
     map.measure();  // anew, as the numbers above the map have taken room
     player.show(data.boundary);
     // for tests: the numbers as the page works them out, and how long it took to open
     const wayOf = name => map.wayInWindow(here().linkOf.get(name));
-    window.ltm = { state, cases, queue, standing, waiting, way: wayOf, middle: name => ltmMap.middleOf(wayOf(name)), opened: performance.now() };
+    window.ltm = { state, cases, queue, standing, waiting, curvesOf, way: wayOf, middle: name => ltmMap.middleOf(wayOf(name)), opened: performance.now() };
   }
 
   begin();
