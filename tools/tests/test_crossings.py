@@ -8,6 +8,7 @@ from fractions import Fraction
 from ltm_tools.network.crossings.chosen import Chosen, chosen
 from ltm_tools.network.crossings.expand import Expanded, Form, cut_as_they_are, expand
 from ltm_tools.network.crossings.movements import Held, Movement, Movements, movements_of
+from ltm_tools.network.crossings.options import MINOR_GAP
 from ltm_tools.network.crossings.sizes import links_told
 from ltm_tools.network.cycles import Green
 from ltm_tools.network.fit import Fit
@@ -179,6 +180,8 @@ class Choice(unittest.TestCase):
     def test_by_signals_or_all(self) -> None:
         self.assertEqual(self.picked(turns(), "signals"), ["c"])
         self.assertEqual(self.picked(turns(held=None), "signals"), [])
+        sign = replace(HELD, sign=MINOR_GAP)
+        self.assertEqual([self.picked(turns(held=sign), asked) for asked in ("signals", "all")], [[], ["c"]])
         self.assertEqual(self.picked(turns(held=None), "all"), ["c"])
         self.assertEqual(self.picked(turns(), "none"), [])
         self.assertEqual(self.picked(turns(held=None), ("c",)), ["c"])

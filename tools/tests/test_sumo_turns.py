@@ -60,6 +60,29 @@ class Turns(SumoTest):
         self.assertEqual(sum((limit.to_slot - limit.from_slot) * limit.units for limit in green),
                          4 * capacity * 420 // 1000)
 
+    def test_turns_that_yield_at_a_sign(self) -> None:
+        minor = [way(start, "ce", 0, f'via=":c_{number}_0"').replace('"M"', '"m"')
+                 for start, number in (("nc", 1), ("wc", 3))]
+        net = (ARMS + way("nc", "cs", 0, 'via=":c_0_0"') + way("sc", "cn", 0, 'via=":c_2_0"') + "".join(minor)
+               # the letter of n to s is a large one: it goes first, whatever the numbers say
+               + YIELDS.replace("traffic_light", "priority").replace('"0" response="0000"', '"0" response="0100"')
+               .replace('"3" response="0000"', '"3" response="0100"'))
+        case = self.made("--turns", "all", *WORDS[2:], net=net, routes=ROUTES)
+        rows = self.rows()
+        # of 0.095, 0.1 and 0.005 a second 0.3412, 0.3361 and 0.4478 find a gap of 4.1 and 2.2 s, as a left turn from a
+        # way with priority wants, and 0.1811, 0.1768 and 0.2790 one of 6.5 and 3.5; a lane lets 0.5319 pass. Nobody
+        # goes at the end of a green
+        self.assertEqual([(rows[name]["opposing"], rows[name]["permissive"], rows[name]["factors"])
+                          for name in ("nc__ce", "wc")], [("sc", "4.1 2.2 0", "0.641 0.632 0.842"),
+                                                          ("sc", "6.5 3.5 0", "0.340 0.332 0.525")])
+        self.assertEqual([rows[name]["permitted"] for name in ("nc__cs", "sc")], ["", ""])
+        # one limit for each 10 minutes
+        capacity = next(link for link in case.links if link.name == "nc__ce").capacity(5000)
+        self.assertEqual([(limit.from_slot, limit.to_slot, limit.units) for limit in case.signals
+                          if limit.link == "nc__ce"], [(0, 120, capacity * 641 // 1000),
+                                                       (120, 240, capacity * 632 // 1000),
+                                                       (240, 360, capacity * 842 // 1000)])
+
     def test_shares_and_free(self) -> None:
         for how, factors in (("0.5", {"0.500"}), ("free", {"1.000"})):
             self.made(*WORDS, "--permissive", how, net=NET, routes=ROUTES)

@@ -77,9 +77,10 @@ def add_crossing_arguments(parser: argparse.ArgumentParser) -> argparse._Argumen
     group.add_argument("--turn-length", type=whole, default=CrossingOptions.length_m, metavar="M",
                        help="the metres before a crossing on which a turn has lanes of its own (98)")
     group.add_argument("--permissive", type=permissive_argument, metavar="HOW",
-                       help="how much of its green a turn gets that yields in it: gaps, a share as 0.5, or free (gaps)")
+                       help="how much a turn gets where it yields, in its green or at a sign: gaps, a share as 0.5, or"
+                       " free (gaps)")
     group.add_argument("--gap", type=gap_argument, metavar="TC,TF,N",
-                       help="for gaps: the critical gap and the follow-up time in seconds, and how many of a lane go"
+                       help="for gaps at signals: the critical gap and the follow-up time in seconds, and how many of a lane go"
                        " when the green ends (4.5,2.2,1)")
     return group
 

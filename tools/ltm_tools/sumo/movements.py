@@ -1,6 +1,7 @@
 """The turns of a net of SUMO, and how its programs hold them.
 
-A way yields to another where the junction says so; in a phase with `g` it yields to those of these that have green.
+A way yields to another where the junction says so: without a signal at all times, and in a phase with `g` to those of
+these that have green.
 """
 from __future__ import annotations
 
@@ -8,6 +9,8 @@ from collections.abc import Iterable, Sequence
 from fractions import Fraction
 
 from ..network.crossings.movements import Held, Movement, Movements, movements_of
+from ..network.crossings.options import MAJOR_GAP, MINOR_GAP
+from ..formats import MINUTE_MS
 from ..network.cycles import Green
 from .net import Connection, Net, Program
 from .signals import GREEN, OFF, YELLOW, cycle_of
@@ -28,7 +31,7 @@ def movements(net: Net, *, signals: bool, yellow: bool, begin_ms: int) -> Moveme
     for (edge, after), some in ways.items():
         node = roads[edge].head
         program = next((net.programs[way.signal] for way in some if way.signal in net.programs), None)
-        held = None
+        held = by_sign(net, some, at[node]) if program is None else None
         if signals and program is not None and cycle_of(program) > 0:
             held = held_by(net, program, some, at[node], yellow, begin_ms)
         made.append(Movement(edge, after, tuple(sorted({way.lane for way in some})), held))
@@ -40,6 +43,29 @@ def priorities(net: Net, way: Connection, others: Iterable[Connection]) -> list[
     signs = net.yields.get(net.network.roads[way.edge].head, {}).get(way.request, "")[::-1]
     return [other for other in others if other.edge != way.edge and 0 <= other.request < len(signs)
             and signs[other.request] == "1"]
+
+
+def gives_way(net: Net, way: Connection, others: Iterable[Connection]) -> list[Connection]:
+    """The ways to which a way without a signal yields: none where its letter is a large one."""
+    return [] if way.state.isupper() else priorities(net, way, others)
+
+
+def by_sign(net: Net, ways: Sequence[Connection], others: Sequence[Connection]) -> Held | None:
+    """How a turn without a signal yields, each lane for its part; none where it need not."""
+    one_each = list({way.lane: way for way in ways}.values())
+    foes = {way: gives_way(net, way, others) for way in one_each}
+    against = tuple(dict.fromkeys(foe for some in foes.values() for foe in some))
+    if not against:
+        return None
+    major = any(not gives_way(net, way, others) for way in others if way.edge == ways[0].edge)
+    yielding = Fraction(sum(bool(some) for some in foes.values()), len(foes))
+    return Held(always(1 - yielding), always(yielding), tuple(dict.fromkeys((foe.edge, foe.after) for foe in against)),
+                tuple(dict.fromkeys((foe.edge, foe.lane) for foe in against)), MAJOR_GAP if major else MINOR_GAP)
+
+
+def always(share: Fraction) -> tuple[Green, ...]:
+    """A green at all times for a share of the lanes."""
+    return (Green(MINUTE_MS, 0, MINUTE_MS, 0, share),) if share else ()
 
 
 def held_by(net: Net, program: Program, ways: Sequence[Connection], others: Sequence[Connection], yellow: bool,

@@ -38,6 +38,8 @@ class Connection:
     index: int
     request: int = -1
     """Its number among the ways over its junction, where the net tells it."""
+    state: str = ""
+    """Its letter where no signal holds it: a large one where it has priority."""
 
 
 @dataclass(frozen=True, slots=True)
@@ -231,7 +233,7 @@ def read_connection(net: Net, element: ElementTree.Element) -> None:
         return
     via = VIA.fullmatch(element.get("via", ""))
     request = int(via[1]) + int(via[2]) if via else -1
-    net.connections.append(Connection(edge, after, lane, signal, index, request))
+    net.connections.append(Connection(edge, after, lane, signal, index, request, element.get("state", "")))
 
 
 def read_program(net: Net, element: ElementTree.Element) -> None:

@@ -7,18 +7,19 @@ from fractions import Fraction
 from itertools import groupby
 
 from ...case import Limit, Link, Setup
-from ..cycles import Plan, exit_limits
+from ..cycles import Plan, even_limits, exit_limits
 from .turn import Turn
 from .volumes import Volumes
 
 
 def limits_of(turns: Iterable[Turn], volumes: Volumes, links: Mapping[str, Link], setup: Setup) -> list[Limit]:
-    """The limits of all turns that a signal holds, and that are not always green."""
+    """The limits of all turns that a signal or a sign holds, and that are not always green."""
     limits: list[Limit] = []
     for turn in turns:
         for plan in plans_of(turn, volumes, setup):
-            limits += exit_limits(plan, capacity=links[turn.link].capacity(setup.step_ms), step_ms=setup.step_ms,
-                                  slots=setup.slots)
+            made = even_limits if turn.is_always_green else exit_limits
+            limits += made(plan, capacity=links[turn.link].capacity(setup.step_ms), step_ms=setup.step_ms,
+                           slots=setup.slots)
     return limits
 
 

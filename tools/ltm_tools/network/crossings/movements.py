@@ -6,6 +6,7 @@ from dataclasses import dataclass
 from fractions import Fraction
 
 from ..cycles import Green
+from .options import Gap
 
 Pair = tuple[str, str]
 """A turn: the link by which it comes to a crossing, its approach, and that on which it goes on, its exit."""
@@ -13,7 +14,7 @@ Pair = tuple[str, str]
 
 @dataclass(frozen=True, slots=True)
 class Held:
-    """How a signal holds a turn. Greens count for the share of its lanes that have them."""
+    """How a signal or a sign holds a turn. Greens count for the share of its lanes that have them."""
 
     protected: tuple[Green, ...] = ()
     """Greens in which it need not yield."""
@@ -23,6 +24,8 @@ class Held:
     """These other turns."""
     opposing_lanes: tuple[tuple[str, int], ...] = ()
     """Their lanes, each an approach and a number."""
+    sign: Gap | None = None
+    """Where no signal but a sign holds it, the gap by which it yields at all times."""
 
     @property
     def always(self) -> bool:
@@ -34,8 +37,9 @@ class Held:
 
 @dataclass(frozen=True, slots=True)
 class Movement:
-    """A turn that is allowed: the lanes of its approach that serve it, by number, and its signal, where it has one; the
-    vehicles that it lets pass in an hour, where that is told, and the time in ms that it takes more than its length."""
+    """A turn that is allowed: the lanes of its approach that serve it, by number, and its signal or sign, where it has
+    one; the vehicles that it lets pass in an hour, where that is told, and the time in ms that it takes more than its
+    length."""
 
     approach: str
     exit: str
@@ -71,7 +75,7 @@ class Movements:
 
     def held(self) -> set[str]:
         """The approaches with a turn that a signal holds."""
-        return {turn.approach for turn in self.turns.values() if turn.held is not None}
+        return {turn.approach for turn in self.turns.values() if turn.held is not None and turn.held.sign is None}
 
     def share(self, pair: Pair, lanes: Fraction | None = None) -> Fraction:
         """The part of its approach that a turn has with so many lanes, or with all that serve it; the whole of it where

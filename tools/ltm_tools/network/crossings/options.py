@@ -20,6 +20,13 @@ class Gap:
     at_end: Fraction = Fraction(1)
 
 
+MINOR_GAP = Gap(Fraction(13, 2), Fraction(7, 2), Fraction(0))
+"""That of a turn from a way that yields to another at a sign; the Highway Capacity Manual has 6.2 to 7.1 and 3.3 to 4.0
+seconds."""
+MAJOR_GAP = Gap(Fraction(41, 10), Fraction(11, 5), Fraction(0))
+"""That of a turn without a signal from a way whose other turns yield to nobody, as a left turn."""
+
+
 @dataclass(frozen=True, kw_only=True)
 class CrossingOptions:
     """Which crossings have their turns as links, and how these are."""
@@ -32,7 +39,7 @@ class CrossingOptions:
     lanes: Literal["full", "counted"] = "full"
     """Whether a turn has all lanes that serve it, or of each the part of the time that its vehicles take there."""
     permissive: Gap | Fraction = Gap()
-    """How much of its lanes a turn gets in a green in which it must yield: by gaps, or a share, 1 for all."""
+    """How much of its lanes a turn gets where it must yield: by gaps, this one in its green, or a share, 1 for all."""
     origins: Literal["edge", "node"] = "edge"
     """Whether trips begin on the link with which their route does, or at the node, from which they may take each."""
     slice_minutes: int = 10

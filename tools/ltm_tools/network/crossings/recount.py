@@ -26,9 +26,10 @@ class Recounted:
 def recount(case: Case, turns: Sequence[Turn], routes: Sequence[Route], slice_ms: int,
             gap: Gap | None = None) -> Recounted:
     """The limits of turns by routes over links of the case; limits of other links stay as they are. A gap stands for
-    that of each turn that has one."""
+    that of each turn that has one at a signal."""
     if gap is not None:
-        turns = [replace(turn, permissive=gap) if isinstance(turn.permissive, Gap) else turn for turn in turns]
+        turns = [turn if turn.is_always_green or not isinstance(turn.permissive, Gap) else replace(turn, permissive=gap)
+                 for turn in turns]
     if not yielding(turns):
         raise Fault("turns.csv has no turn that yields by gaps, so that volumes change nothing")
     return by_volumes(case, turns, volumes_of(routes, Roads.of(case.links), slice_ms))

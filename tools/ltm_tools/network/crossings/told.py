@@ -43,7 +43,7 @@ def turns_told(turns: Sequence[Turn], volumes: Volumes, links: Mapping[str, Link
     told = []
     if yielding:
         least, link = min(yielding)
-        told.append(f"{counted(len(yielding), 'turn')} that yield in their green, to the traffic of each"
+        told.append(f"{counted(len(yielding), 'turn')} that yield, to the traffic of each"
                     f" {volumes.slice_ms // 60_000} minutes; the least is {float(least):.3f} of what its lanes let pass"
                     f" ({link})")
     over = sorted(((load, turn.link) for turn in turns if (load := load_of(turn, volumes, links, setup)) > 1),

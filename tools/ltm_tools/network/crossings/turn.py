@@ -33,6 +33,11 @@ class Turn:
     permissive: Gap | Fraction = Gap()
     """How it finds its way while it yields: by gaps, or a share of what its lanes let pass."""
 
+    @property
+    def is_always_green(self) -> bool:
+        """Whether nothing but its yielding holds it, as at a sign."""
+        return all(green.to_ms - green.from_ms == green.cycle_ms for green in self.protected + self.permitted)
+
     def factor(self, volumes: Volumes, number: int) -> Fraction:
         """The share of its greens in which it yields that it gets in a slice."""
         if isinstance(self.permissive, Fraction):
@@ -70,6 +75,8 @@ def turns_of(links: Mapping[Pair, str], movements: Movements, capacities: Mappin
         if (held := movement.held) is not None:
             opposing = tuple(links[other] for other in held.opposing if other in links)
             whole = sum((rates[name] for name, _ in set(held.opposing_lanes)), Fraction(0))
+            if held.sign is not None and isinstance(permissive, Gap):
+                turn = replace(turn, permissive=held.sign)
             turn = replace(turn, protected=held.protected, permitted=held.permitted, opposing=opposing,
                            opposing_saturation=thousandths(whole))
         turns.append(turn)
