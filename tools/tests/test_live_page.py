@@ -15,6 +15,8 @@ from typing import Any
 from browser import CTRL, ENTER, NULL, RIGHT, SHIFT, TAB, BrowserTest
 from made_live import needs_live
 from support import BUILT, CLONE, EXAMPLES, needs_splits
+from test_assign import needs_numpy
+from test_live_hearing import ALL, OPEN, ROADS
 from ltm_tools.case import Case, Limit
 from ltm_tools.formats import told_time
 from ltm_tools.listing import HOURS
@@ -25,11 +27,12 @@ HOSTILE = "<img src=x onerror=document.title=1>"
 @needs_live
 @needs_splits
 class Page(BrowserTest):
-    def serve(self, name: str = "closures") -> str:
-        """Serves a case with a signal under a name, and opens its page: the address."""
+    def serve(self, name: str = "closures", case: Case | None = None) -> str:
+        """Serves a case, else one with a signal, under a name, and opens its page: the address."""
         self.where = self.folder / name
-        case = Case.read(EXAMPLES / "closures")
-        case.setup.signals, case.signals = True, [Limit("south_east", 20, 50, 1000)]
+        if case is None:
+            case = Case.read(EXAMPLES / "closures")
+            case.setup.signals, case.signals = True, [Limit("south_east", 20, 50, 1000)]
         case.write(self.where)
         words = ["live", str(self.where), "--program", str(BUILT), "--start", "7:00", "--no-open", "--script",
                  str(self.folder / "script.jsonl")]
@@ -199,6 +202,28 @@ class Page(BrowserTest):
                 return
             self.browser.type(TAB)
         raise AssertionError(f"{name} is not reached")
+
+    @needs_numpy
+    def test_who_hears_of_a_closure(self) -> None:
+        """Its hours are those worked by hand; the words beside the button say who is diverted."""
+        self.serve("roads", Case.read(self.case(**ROADS)))
+        self.see(300)
+        self.browser.click(*self.browser.run("return live.middle('fast')"))
+        self.assertIn("Nobody is diverted", self.text("#edit .hint"))
+        self.browser.run("document.querySelector('#edit select').focus()")
+        self.browser.type("a")
+        self.assertIn("All who would pass hear of it, and go where it is best then", self.text("#edit .hint"))
+        self.press("#edit form button")
+        self.wait(1)
+        self.assertEqual(self.texts("#list .link"), ["fast closed, 7:05 to 7:20, all hear of it"])
+        self.assertEqual((self.text("#sums dd"), self.text("#sums .base")), (f"{ALL:.2f}",
+                                                                             f"base {OPEN:.2f} "))
+        self.assertRegex(self.text("#notice"), r"settled in .*; other ways found in [0-9.]+ s")
+        self.assertRegex(self.text("#edit .hint"), r": [0-9.]+ s the last time\.$")
+        self.press("#undo")
+        self.wait(0)
+        self.assertEqual((self.text("#sums dd"), self.text("#sums .change"), self.browser.console()),
+                         (f"{OPEN:.2f}", "", []))
 
     def test_hostile_names_and_the_token(self) -> None:
         """A folder's name that is markup is a text; no address has the token, and a script in the page is not run."""

@@ -21,10 +21,10 @@ class Ask:
     """A change of one link or node. Slots run from `first` up to, and without, `end`; what a kind does not have is 0,
     or an empty text.
 
-    `close` lets nothing into a link; `let_in` and `let_out` let vehicles an hour in or out; `signal` lets out while it
-    is green, the first of its cycles beginning at `first`; `speed` is the free speed in km/h of all slots; `demand` is
-    a node's demand in percent of what it is without such a change; `share` is the percentage that takes a link at a
-    node, of all who have a choice there and may take it."""
+    `close` lets nothing into a link, and `informed` percent of those who would pass hear of it; `let_in` and `let_out`
+    let vehicles an hour in or out; `signal` lets out while it is green, the first of its cycles beginning at `first`;
+    `speed` is the free speed in km/h of all slots; `demand` is a node's demand in percent of what it is without such a
+    change; `share` is the percentage that takes a link at a node, of all who have a choice there and may take it."""
 
     kind: str
     link: str = ""
@@ -36,17 +36,22 @@ class Ask:
     cycle: int = 0
     kmh: int = 0
     percent: int = 0
+    informed: int = 0
 
     def members(self) -> dict[str, object]:
         """The change as the members of an object, as `ask_of` reads them."""
         named = {name: value for name in ("link", "node") if (value := getattr(self, name))}
         numbers = {name: getattr(self, field) for name, field in NUMBERS[self.kind].items()}
-        return {"kind": self.kind, **named, **numbers}
+        heard = {"informed": self.informed} if self.informed else {}
+        return {"kind": self.kind, **named, **numbers, **heard}
 
     def text(self, start: int, step_ms: int) -> str:
         """The change in words, slot 0 beginning at a clock time (ms)."""
         span = f"{clock_text(start + self.first * step_ms)} to {clock_text(start + self.end * step_ms)}"
-        said = {"close": f"{self.link} closed, {span}", "let_in": f"{self.link} lets in {self.per_hour}/h, {span}",
+        who = {50: "half", 100: "all"}.get(self.informed, f"{self.informed} %")
+        heard = f", {who} hear of it" if self.informed else ""
+        said = {"close": f"{self.link} closed, {span}{heard}",
+                "let_in": f"{self.link} lets in {self.per_hour}/h, {span}",
                 "let_out": f"{self.link} lets out {self.per_hour}/h, {span}",
                 "signal": f"{self.link} green {self.green} s of {self.cycle} s, {span}",
                 "speed": f"{self.link} at {self.kmh} km/h, the whole time",
@@ -62,7 +67,7 @@ NUMBERS: dict[str, dict[str, str]] = {
     "demand": {**SPAN, "percent": "percent"}, "share": {**SPAN, "percent": "percent"},
 }
 RANGES = {"per_hour": (0, MOST_PER_HOUR), "green": (0, MOST_SECONDS), "cycle": (1, MOST_SECONDS), "kmh": (1, MOST_KMH),
-          "percent": (0, MOST_PERCENT)}
+          "percent": (0, MOST_PERCENT), "informed": (0, 100)}
 
 
 def ask_of(told: Members, case: Case) -> Ask:
@@ -75,7 +80,8 @@ def ask_of(told: Members, case: Case) -> Ask:
         names["link"] = name_in(told, "link", {link.name for link in case.links})
     if kind in OF_NODES:
         names["node"] = name_in(told, "node", set(case.nodes))
-    numbers = {field: whole_in(told, name, case.setup.slots) for name, field in NUMBERS[kind].items()}
+    more = {"informed": "informed"} if kind == "close" and "informed" in told else {}
+    numbers = {field: whole_in(told, name, case.setup.slots) for name, field in {**NUMBERS[kind], **more}.items()}
     if "first" in numbers and numbers["first"] >= numbers["end"]:
         raise Fault("it ends before it begins")
     ask = Ask(kind, **names, **numbers)  # type: ignore[arg-type]

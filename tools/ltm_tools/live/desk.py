@@ -10,18 +10,21 @@ import logging
 import time
 from collections.abc import Callable, Sequence
 from concurrent.futures import ThreadPoolExecutor
+from dataclasses import replace
 from functools import partial
 from typing import Protocol, TypeVar
 
 from ..errors import Fault
 from ..loading.session import Ended
 from .entries import Entry
+from .hearing import Question, Seekers, question_of
 from .kept import Script
 from .messages import Make, Told, told_delays, told_list, told_totals
 from .scenario import Scenario
 
 Done = TypeVar("Done")
 TRIED_AGAIN = 1.0  # seconds
+OURS = "a fault of the server, told on its standard error"
 LOG = logging.getLogger(__name__)
 
 
@@ -46,7 +49,8 @@ class Desk:
         self.scenario, self.script = scenario, script
         self.jobs: asyncio.Queue[tuple[Browser, Make] | None] = asyncio.Queue()
         self.browsers: set[Browser] = set()
-        self.thread = ThreadPoolExecutor(1, "scenario")
+        self.thread, self.seekers = ThreadPoolExecutor(1, "scenario"), Seekers(scenario)
+        self.tasks: set[asyncio.Task[None]] = set()  # for which shares are sought
         self.costs: Told = {}
         self.base: Told = {}
         self.ready, self.stale = False, False  # whether the base is there; whether the list is not settled yet
@@ -112,10 +116,13 @@ class Desk:
         before, changed = self.scenario.entries, False
         try:
             for browser, make in jobs:
-                changed = await self.make(browser, make) or changed
+                if make.is_sought:
+                    await self.seek(browser, make)
+                else:
+                    changed = await self.make(browser, make) or changed
             anew = changed or self.stale
             if anew:
-                await self.settle(before)
+                await self.settle(before, sum(make.found.seconds for _, make in jobs if make.found is not None))
             await self.show()
             if anew:
                 await self.count()
@@ -138,18 +145,54 @@ class Desk:
             except Fault as fault:
                 if self.scenario.entries is not before:  # it was made, and could not be written
                     await self.call(partial(self.scenario.change, before))
-                browser.send({"refused": str(fault), "at": make.at})
+                self.refuse(browser, make, fault)
                 return False
-            except Exception:  # a fault of this server is no reason to lose the scenario
-                LOG.exception("a change was not made")
-                browser.send({"refused": "a fault of the server, told on its standard error", "at": make.at})
+            except Exception as error:
+                self.refuse(browser, make, error)
                 return False
         return False
+
+    async def seek(self, browser: Browser, make: Make) -> None:
+        """Has the shares sought of those who hear of a closure, which is made once they are found."""
+        try:
+            question = await self.call(partial(question_of, self.scenario, make.edit))
+        except Exception as error:
+            self.refuse(browser, make, error)
+            return
+        browser.pending += 1
+        task = asyncio.ensure_future(self.found(browser, make, question))
+        self.tasks.add(task)
+        task.add_done_callback(self.tasks.discard)
+
+    async def found(self, browser: Browser, make: Make, question: Question) -> None:
+        """Has a closure made once the shares are found of those who hear of it."""
+        try:
+            found = await self.seekers.found((browser, make.at), question,
+                                             lambda told: browser.send({**told, "at": make.at}))
+        except Exception as error:
+            browser.pending -= 1
+            self.refuse(browser, make, error)
+        else:
+            self.jobs.put_nowait((browser, replace(make, found=found)))
+
+    def refuse(self, browser: Browser, make: Make, error: Exception) -> None:
+        """Tells a browser why a change is not made; a fault of this server is no reason to lose the scenario."""
+        is_ours = not isinstance(error, (Fault, OSError))
+        if is_ours:
+            LOG.error("a change was not made", exc_info=error)
+        browser.send({"refused": OURS if is_ours else str(error), "at": make.at})
+
+    def close(self) -> None:
+        """Ends the program, and all that is sought."""
+        self.seekers.close()
+        self.scenario.close()
 
     def change(self, by: str, make: Make) -> None:
         """Makes one change of the list, and has it on disk where there is a script."""
         scenario = self.scenario
-        if make.what == "edit":
+        if make.found is not None:
+            scenario.add(by, make.edit, make.found.edits, make.found.before)
+        elif make.what == "edit":
             scenario.add(by, make.edit)
         elif make.what == "undo":
             scenario.undo(make.number)
@@ -162,8 +205,9 @@ class Desk:
         if self.script is not None:
             self.script.write(self.scenario.entries)
 
-    async def settle(self, before: list[Entry]) -> None:
-        """Settles, and tells the list; where the program ends at it twice, the list becomes that of before."""
+    async def settle(self, before: list[Entry], sought: float = 0.0) -> None:
+        """Settles, and tells the list, and for how many seconds shares were sought; where the program ends at it twice,
+        the list becomes that of before."""
         began = time.perf_counter()
         for tries in range(3):
             try:
@@ -181,7 +225,8 @@ class Desk:
         for browser in self.browsers:
             browser.wanted = True
         took = round(1e3 * (time.perf_counter() - began), 2)
-        self.tell({**self.told_list(), "recomputed": settled.recomputed, "ms": took})
+        self.tell({**self.told_list(), "recomputed": settled.recomputed, "ms": took,
+                   **({"sought": round(sought, 1)} if sought else {})})
 
     async def reopen(self, ended: Ended) -> None:
         """Opens the program anew, and makes the list again, which is to be settled; tries that until it can."""

@@ -20,7 +20,8 @@ ROOM = 1_000  # bytes of a line that its edits leave for the rest
 @dataclass(slots=True)
 class Entry:
     """An entry of the list: its number, whose it is, its change in words; what was asked for, or the edits of a line of
-    a script, and that line; whether it is on; and the batches that it is, after the entries before it."""
+    a script, and that line; whether it is on; the batches that it is, after the entries before it; and of a closure the
+    shares that were found for those who hear of it."""
 
     number: int
     by: str
@@ -30,6 +31,7 @@ class Entry:
     source: bytes | None = None
     on: bool = True
     batches: list[Batch] = field(default_factory=list)
+    heard: Batch = field(default_factory=list)
 
 
 def batches_of(case: Case, own: Own, entries: Sequence[Entry]) -> list[list[Batch]]:
@@ -45,7 +47,10 @@ def batches_of(case: Case, own: Own, entries: Sequence[Entry]) -> list[list[Batc
                 standing.make(edit)
             found.append([entry.line])
         else:
-            found.append(list(in_batches(edits_of(case, standing, entry.ask))))
+            made = edits_of(case, standing, entry.ask)
+            for edit in entry.heard:
+                standing.make(edit)
+            found.append(list(in_batches([*made, *entry.heard])))
     return found
 
 
@@ -143,3 +148,5 @@ def spans_of(entry: Entry, slots: int) -> Iterator[tuple[object, int, int]]:
     elif ask.kind in ("demand", "share"):
         key = (ask.kind, ask.node, ask.link)
     yield key, *((0, slots) if ask.kind == "speed" else (ask.first, ask.end))
+    if entry.heard:
+        yield None, 0, slots

@@ -1,7 +1,8 @@
 """A scenario that is kept: as a script, as the files of a case, and as a page that needs no server.
 
 A line of the script may have a member `change` beside those that a session looks at: what was asked for, so that the
-list comes back as it was. An entry that is off stands as the question `totals`, which changes nothing.
+list comes back as it was. An entry that is off stands as the question `totals`, which changes nothing. An entry of
+several lines says on the first how many.
 """
 from __future__ import annotations
 
@@ -11,6 +12,7 @@ import os
 import tempfile
 import zipfile
 from collections.abc import Iterable, Sequence
+from itertools import islice
 from pathlib import Path
 
 from ..case.edits import Edit
@@ -22,7 +24,7 @@ from ..formats import UNITS
 from ..loading.curves import Summed
 from ..loading.loaded import Loaded, loaded
 from ..show.page import find_d3, page
-from .entries import Batch, Entry
+from .entries import Batch, Entry, in_batches
 from .messages import Told
 from .scenario import Scenario
 
@@ -33,9 +35,10 @@ def lines_of(entry: Entry) -> list[bytes]:
         return [entry.source]
     told: Told = {"by": entry.by, **(entry.ask.members() if entry.ask else {"text": entry.text})}
     if not entry.on:
+        parts = list(in_batches(entry.heard))
         more: Told = {} if entry.line is None else {"edits": entry.line}
-        told.update(more, on=False)
-        return [line_text({"do": "totals", "change": told})]
+        told.update(more, on=False, **({"batches": 1 + len(parts)} if parts else {}))
+        return [line_text({"do": "totals", "change": one}) for one in (told, *({"heard": part} for part in parts))]
     lines: list[Told] = [{"do": "edit", "edits": batch} for batch in entry.batches]
     if lines:
         told["batches"] = len(lines)
@@ -67,17 +70,14 @@ class Script:
 
     def read(self, scenario: Scenario) -> None:
         """Puts what the file has into the list; a Fault that names the first line that is refused."""
-        left = 0  # lines that belong to the entry before
-        for number, line in enumerate(read_script(self.path) if os.path.exists(self.path) else (), 1):
-            if left:
-                left -= 1
-                continue
+        lines = enumerate(read_script(self.path) if os.path.exists(self.path) else (), 1)
+        for number, line in lines:
+            more = [one for _, one in islice(lines, lines_in(line) - 1)]
             try:
-                entry = entry_of(scenario, line, f"line {number} of {os.path.basename(self.path)}")
+                entry = entry_of(scenario, line, more, f"line {number} of {os.path.basename(self.path)}")
             except Fault as fault:
                 raise Fault(f"{self.path}, line {number}: {fault}") from None
             self.lines.append(line if entry is None else entry.number)
-            left = 0 if entry is None else batches_in(change_of(line) or {}) - 1
 
     def write(self, entries: Sequence[Entry]) -> None:
         """Writes the file; a Fault where that cannot be done."""
@@ -89,11 +89,11 @@ class Script:
                                                 for line in lines_of(entry)]))
 
 
-def entry_of(scenario: Scenario, line: bytes, place: str) -> Entry | None:
-    """The entry that a line of a script adds to the list; None where it is no edit."""
+def entry_of(scenario: Scenario, line: bytes, more: Sequence[bytes], place: str) -> Entry | None:
+    """The entry that a line of a script adds to the list, with more lines that are of it; None where it is no edit."""
     told, change = edits_of(line), change_of(line)
     if change is not None and (told is not None or change.get("on") is False):
-        return add_change(scenario, change, told)
+        return add_change(scenario, change, told, heard_in([line, *more]) if change.get("informed") else [])
     if told is None:
         return None
     check_edits(told)
@@ -117,18 +117,32 @@ def change_of(line: bytes) -> dict[str, object] | None:
     return change if isinstance(change, dict) else None
 
 
-def batches_in(change: dict[str, object]) -> int:
-    """How many lines an entry has."""
+def lines_in(line: bytes) -> int:
+    """How many lines the entry has that begins with this one."""
+    change = change_of(line) or {}
     count = change.get("batches", 1)
-    return count if type(count) is int and count > 0 else 1
+    is_entry = edits_of(line) is not None or change.get("on") is False
+    return count if is_entry and type(count) is int and count > 0 else 1
 
 
-def add_change(scenario: Scenario, change: dict[str, object], told: Batch | None) -> Entry:
+def heard_in(lines: Iterable[bytes]) -> Batch:
+    """The shares of those who hear of a closure, in the lines of its entry."""
+    found: Batch = []
+    for line in lines:
+        told = edits_of(line) or (change_of(line) or {}).get("heard")
+        if told is not None:
+            check_edits(told)
+            assert isinstance(told, list)
+            found += [edit for edit in told if edit["kind"] == "splits"]
+    return found
+
+
+def add_change(scenario: Scenario, change: dict[str, object], told: Batch | None, heard: Batch) -> Entry:
     """Adds an entry as a line of a script tells it."""
     by = change.get("by")
     who = by if isinstance(by, str) else "script"
     if "kind" in change:
-        entry = scenario.add(who, change)
+        entry = scenario.add(who, change, heard)
     else:
         edits = told if told is not None else change.get("edits")
         check_edits(edits)

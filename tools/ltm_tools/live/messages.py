@@ -1,7 +1,8 @@
 """What browsers and the server tell one another: texts of JSON objects, and frames.
 
 A browser tells `token`, once and first; then `see` with a boundary, `pick` with a link or node or none, `edit` with a
-change (see the module `asks`), `undo` with the number of an entry, and `switch` with that and whether it is `on`.
+change (see the module `asks`), `undo` with the number of an entry, `switch` with that and whether it is `on`, and
+`stop` with what it calls a change for which shares are sought.
 """
 from __future__ import annotations
 
@@ -15,6 +16,7 @@ from ..loading.answers import AllDelays, Totals
 from ..loading.remaining import Remaining
 from .asks import Members
 from .entries import Entry, covered
+from .hearing import Found
 from .scenario import Scenario
 
 Told = dict[str, object]
@@ -22,13 +24,21 @@ Told = dict[str, object]
 
 @dataclass(frozen=True, slots=True)
 class Make:
-    """A change of the list that a browser asks for, and what the browser calls it: `edit`, `undo` or `switch`."""
+    """A change of the list that a browser asks for, and what the browser calls it: `edit`, `undo` or `switch`; of a
+    closure of which some hear, their shares once these are found."""
 
     what: str
     edit: Members
     number: int
     on: bool
     at: int | None
+    found: Found | None = None
+
+    @property
+    def is_sought(self) -> bool:
+        """Whether shares are to be found before it is made."""
+        edit = self.edit
+        return self.found is None and edit.get("kind") == "close" and edit.get("informed", 0) not in (0, None)
 
 
 def object_of(data: str | bytes) -> Members:

@@ -11,6 +11,7 @@ from dataclasses import replace
 from itertools import count
 
 from ..case import Case, Link
+from ..case.edits import Edit
 from ..errors import Fault
 from ..formats import MOST_LINES
 from ..loading.answers import AllDelays, Settled, Totals
@@ -24,6 +25,7 @@ from .standing import Own
 ROOM = 5_000  # lines that a session has left when it is opened anew, or a quarter of all where that is less
 PIECE = 50  # boundaries of the base that are asked for at a time
 DIAGRAM = ("length_m", "free_kmh", "wave_kmh", "jam_per_km")
+Before = tuple[tuple[int, bool], ...]
 OLD = "the program's sessions do not answer `state`, `curve` and `delays`: a newer ltm is needed"
 
 
@@ -129,10 +131,18 @@ class Scenario:
         """The batches of all entries that are on, in order."""
         return [batch for entry in self.entries for batch in entry.batches]
 
-    def add(self, by: str, told: Members) -> Entry:
-        """Adds an entry of what a browser asks for; a Fault where it is refused, and nothing is changed."""
+    def add(self, by: str, told: Members, heard: Sequence[Edit] = (), before: Before | None = None) -> Entry:
+        """Adds an entry of what a browser asks for, with the shares of those who hear of it; behind the entries for
+        which these were found, where that is told. A Fault where it is refused, and nothing is changed."""
         ask = ask_of(told, self.case)
-        return self._put(Entry(0, by, ask.text(self.start, self.step), ask=ask))
+        if before is not None and self.standing()[:len(before)] != before:
+            raise Fault("an earlier change was taken back or switched meanwhile: ask for it again")
+        return self._put(Entry(0, by, ask.text(self.start, self.step), ask=ask, heard=list(heard)),
+                         None if before is None else len(before))
+
+    def standing(self) -> Before:
+        """The numbers of the entries, and whether each is on."""
+        return tuple((entry.number, entry.on) for entry in self.entries)
 
     def add_line(self, by: str, text: str, line: Batch, source: bytes | None = None) -> Entry:
         """Adds an entry of the edits of a line of a script; a Fault where it is refused, and nothing is changed."""
@@ -140,10 +150,11 @@ class Scenario:
             raise Fault("a live scenario has the slots of its case: give them in setup.csv")
         return self._put(Entry(0, by, text, line=line, source=source))
 
-    def _put(self, entry: Entry) -> Entry:
+    def _put(self, entry: Entry, at: int | None = None) -> Entry:
         entry.number = next(self.numbers)
-        self.change([*self.entries, entry])
-        return self.entries[-1]
+        place = len(self.entries) if at is None else at
+        self.change([*self.entries[:place], entry, *self.entries[place:]])
+        return self.entries[place]
 
     def undo(self, number: int) -> None:
         """Takes an entry out of the list; a Fault where later ones do not stand without it."""

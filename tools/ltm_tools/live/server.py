@@ -22,8 +22,9 @@ from ..show.network import placed, told_network
 from ..show.page import SHARED_SCRIPTS, WEB as SHARED, find_d3
 from .desk import Desk
 from .guard import ADDRESS, MOST_BROWSERS, MOST_MESSAGE, MOST_PENDING, SECONDS_FOR_TOKEN, Guard
+from .hearing import lacking
 from .kept import case_zip, page_of, script_of
-from .messages import Make, Told, boundary_of, choices_of, make_of, object_of, picked_of, text_of
+from .messages import Make, Told, boundary_of, choices_of, make_of, object_of, picked_of, text_of, whole_of
 from .scenario import Scenario
 
 WEB = Path(__file__).resolve().parent / "web"
@@ -49,7 +50,8 @@ def hello(scenario: Scenario) -> Told:
             "slots": scenario.slots, "start": scenario.start, **told_network(scenario.folder, case, places, bent),
             "kmh": [link.free_kmh for link in case.links],
             "capacity": [link.capacity(3_600_000) for link in case.links],
-            "origins": [case.nodes.index(node) for node in scenario.origins], "choices": choices_of(case)}
+            "origins": [case.nodes.index(node) for node in scenario.origins], "choices": choices_of(case),
+            "hears": not lacking()}
 
 
 @dataclass(slots=True)
@@ -161,6 +163,8 @@ class Socket(Guarded, tornado.websocket.WebSocketHandler):
             self.ask(make)
         elif "pick" in told:
             self.pick(told["pick"])
+        elif "stop" in told:
+            self.site.desk.seekers.stop((self, whole_of(told["stop"])))
         elif (boundary := boundary_of(told, self.site.desk.scenario.slots)) is not None:
             self.boundary, self.wanted = boundary, True
             self.site.desk.look()
@@ -229,7 +233,7 @@ class Live:
         self.server.stop()
         for browser in list(self.site.desk.browsers):
             browser.close(1001, "the server ends")  # type: ignore[attr-defined]
-        self.site.desk.scenario.close()
+        self.site.desk.close()
         await self.server.close_all_connections()
 
 

@@ -2,11 +2,12 @@
 // What can be done to a road or a node, and the list of what was done. Texts of a case go in as text alone.
 const ltmEdits = (() => {
   const SPAN_MS = 900000;
+  const HEAR = [[0, "nobody"], [50, "half"], [100, "all"]];
   const WHOLE = { min: 0, step: 1, type: "number", required: "" };
 
   // Of each kind what it is called, its fields (name, value, what stands behind it), whether it has a span, and what its button says.
   const KINDS = {
-    close: { title: "Close", fields: () => [], button: "Close the road" },
+    close: { title: "Close", fields: () => [], button: "Close the road", heard: true },
     let_in: { title: "Let in", fields: road => [["per_hour", road.capacity / 2, "vehicles/h"]], button: "Let in at most" },
     let_out: { title: "Let out", fields: road => [["per_hour", road.capacity / 2, "vehicles/h"]], button: "Let out at most" },
     signal: { title: "Signal", fields: () => [["green", 30, "s green of"], ["cycle", 90, "s"]], button: "Set the signal" },
@@ -15,9 +16,10 @@ const ltmEdits = (() => {
     share: { title: "Share", fields: () => [["percent", 0, "% take"]], button: "Set the share" },
   };
 
-  // `asks` has `clockOf(k)`, `slotOf(text)`, `step()`, `slots()`, `here()`, `edit(told)`, `pick(what)`, `say(text, bad)`.
+  // `asks` has `clockOf(k)`, `slotOf(text)`, `step()`, `slots()`, `here()`, `edit(told)`, `pick(what)`, `say(text, bad)`, `hears()`: whether other
+  // ways can be sought for those who hear of a closure, and `sought()`: how many seconds that took last, 0 where none were sought yet.
   function panel(box, asks) {
-    let kind = null, touched = false, of = null;
+    let kind = null, touched = false, of = null, informed = 0;
 
     function draw(what) {
       of = what;
@@ -64,15 +66,25 @@ const ltmEdits = (() => {
         }
         preset();
       }
+      if (told.heard) {
+        const choice = form.append("label").attr("class", "hear").text("who hears of it ").append("select").attr("name", "informed");
+        choice.selectAll("option").data(HEAR).join("option").attr("value", ([share]) => share).text(([, name]) => name).property("selected", ([share]) => share === informed);
+        choice.property("disabled", !asks.hears()).attr("title", asks.hears() ? null : "other ways are sought with python3-numpy, which is not there");
+        choice.on("change", () => { informed = Number(choice.property("value")); hint(); });
+      }
       form.append("button").attr("type", "submit").text(told.button);
       form.node().onsubmit = event => { event.preventDefault(); ask(form.node(), told); };
       hint();
     }
 
-    // A closure and its like divert nobody: the words that say so, and the way to do it.
+    // A closure and its like divert nobody, but those who hear of it: the words that say so, and the way to do it.
     function hint() {
       const line = box.select("p.hint").html("");
       if (!of.road || kind === "speed") return;
+      if (KINDS[kind].heard && informed) {
+        const [, name] = HEAR.find(([share]) => share === informed), seconds = asks.sought();
+        return line.text(`${name === "all" ? "All" : "Half of those"} who would pass hear of it, and go where it is best then. That is sought in rounds of loadings${seconds ? `: ${seconds} s the last time` : ""}.`);
+      }
       line.append("span").text("Nobody is diverted: the shares at each node stay. ");
       if (of.choicesAtTail) line.append("button").attr("type", "button").attr("class", "link").text(`Send fewer this way at ${of.tail}`).on("click", () => { kind = "share"; asks.pick({ node: of.tail, share: of.name }); });
     }
@@ -87,6 +99,7 @@ const ltmEdits = (() => {
 
     function ask(form, told) {
       const what = { kind, [of.road ? "link" : "node"]: of.name };
+      if (told.heard && informed) what.informed = informed;
       for (const [name] of told.fields(of)) what[name] = Number(form.elements[name].value);
       if (kind === "share") what.link = form.elements.link.value;
       for (const name of told.whole ? [] : ["from", "to"]) {
@@ -96,7 +109,7 @@ const ltmEdits = (() => {
       asks.edit(what);
     }
 
-    return { draw, preset };
+    return { draw, preset, hint: () => of !== null && kind !== null && hint() };
   }
 
   // The list: each with a box that switches it on and off, its words, and a button that takes it back.

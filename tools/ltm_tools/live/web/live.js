@@ -2,11 +2,11 @@
 // The page of `ltm-tools live`: what the server tells is shown, and what a user does is told to it. Counts are thousandths of a vehicle, times
 // milliseconds, vehicle times their product.
 (() => {
-  const $ = id => document.getElementById(id), { vehicles, clockOf } = ltmNumbers, AGAIN = 1000, TALL = [120, 112];
+  const $ = id => document.getElementById(id), { vehicles, clockOf } = ltmNumbers, AGAIN = 1000, TICK = 200, TALL = [120, 112];
   const token = location.hash.slice(1) || sessionStorage.getItem("token") || "";
   sessionStorage.setItem("token", token);
   history.replaceState(null, "", location.pathname);
-  const state = { net: null, frame: null, costs: null, list: [], you: "", revision: 0, picked: {}, found: "", shown: "queue", ready: false };
+  const state = { net: null, frame: null, costs: null, list: [], you: "", revision: 0, picked: {}, found: "", shown: "queue", ready: false, seeking: null, sought: 0, settled: null };
   const times = [];  // for tests: of each change when it was asked for, drawn, painted and counted
   let socket = null, asked = null, flying = false, unit = ltmNumbers.unitOf(0);
 
@@ -19,6 +19,7 @@
     socket.onmessage = event => typeof event.data === "string" ? hear(JSON.parse(event.data)) : show(new Float64Array(event.data));
     socket.onclose = event => {
       flying = false;
+      ended();
       const again = event.code !== 1008 && event.code !== 1013;
       say(`not connected: ${event.reason || "the server is gone"}${again ? "; tried again" : ""}`, true);
       if (again) setTimeout(connect, AGAIN);
@@ -44,12 +45,30 @@
     if (told.hello !== undefined) begin(told.hello);
     if (told.list !== undefined) showList(told);
     if (told.refused !== undefined) refused(told);
+    if (told.seeking !== undefined) sought(told);
     if (told.notice !== undefined) say(told.notice, true);
     if (told.costs !== undefined) showCosts(told);
     if (told.curve !== undefined) drawCurves(told);
   }
 
+  // How far other ways are sought for those who hear of a closure, and for how many seconds.
+  function sought(told) {
+    ended();
+    const began = performance.now() - 1000 * told.seconds;
+    const tick = () => say(`${told.seeking}: ${told.rounds} of ${told.most} rounds, ${((performance.now() - began) / 1000).toFixed(1)} s`);
+    state.seeking = { at: told.at, timer: setInterval(tick, TICK) };
+    $("stop").hidden = false;
+    tick();
+  }
+
+  function ended() {
+    if (state.seeking !== null) clearInterval(state.seeking.timer);
+    state.seeking = null;
+    $("stop").hidden = true;
+  }
+
   function refused(told) {
+    if (state.seeking !== null && told.at === state.seeking.at) ended();
     say(told.refused, true);
     if (times[told.at]) times[told.at].refused = told.refused;
     listing.draw(state.list, state.you);  // boxes as they are
@@ -155,7 +174,7 @@
     return k >= 0 && k <= state.net.slots ? k : null;
   }
 
-  const panel = ltmEdits.panel(d3.select("#edit"), { clockOf: clock, slotOf, step: () => state.net.step, slots: () => state.net.slots, here: () => player.here(), say,
+  const panel = ltmEdits.panel(d3.select("#edit"), { clockOf: clock, slotOf, step: () => state.net.step, slots: () => state.net.slots, here: () => player.here(), say, hears: () => state.net.hears, sought: () => state.sought,
     edit: what => ask({ edit: what }), pick: what => pick({ node: state.net.nodeOf.get(what.node) }, what.share) });
 
   // Curves are asked for of a road, or of a node where some set out.
@@ -221,7 +240,15 @@
     $("count").textContent = !told.ready ? "the base is being fetched" : told.list.length || "";
     for (const id of ["script", "case", "page"]) $(id).disabled = !told.ready;
     $("undo").disabled = !told.list.length;
-    if (told.recomputed !== undefined) say(`settled in ${Math.round(told.ms)} ms: ${told.recomputed} pairs of node and slot anew`);
+    if (told.recomputed !== undefined) {
+      state.settled = told.ms;
+      say(`settled in ${Math.round(told.ms)} ms: ${told.recomputed} pairs of node and slot anew${told.sought ? `; other ways found in ${told.sought} s` : ""}`);
+    }
+    if (told.sought) {
+      state.sought = told.sought;
+      ended();
+      panel.hint();
+    }
     if (state.frame !== null && state.frame.revision !== told.revision && !flying) see(player.here());
   }
 
@@ -274,6 +301,7 @@
   for (const [id, name] of [["script", "script.jsonl"], ["case", "case.zip"], ["page", "page.html"]]) $(id).addEventListener("click", () => keep(name));
   const undoLast = () => state.list.length && undo(state.list[state.list.length - 1].id);
   $("undo").addEventListener("click", undoLast);
+  $("stop").addEventListener("click", () => state.seeking !== null && send({ stop: state.seeking.at }));
   document.addEventListener("keydown", event => {
     const writes = event.target.matches("input:not([type=range]):not([type=checkbox])");
     if (event.key === "z" && (event.ctrlKey || event.metaKey) && !event.shiftKey && !writes) { event.preventDefault(); undoLast(); }

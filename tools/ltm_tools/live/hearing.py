@@ -1,0 +1,104 @@
+"""Who hears of a closure: the shares of those who do are sought in a session of their own, while the scenario goes
+on."""
+from __future__ import annotations
+
+import asyncio
+import threading
+import time
+from collections.abc import Callable
+from concurrent.futures import ThreadPoolExecutor
+from dataclasses import dataclass
+from functools import partial
+
+from ..case.edits import Edit
+from ..case.keeping import case_of
+from ..errors import Fault
+from ..libraries import PACKAGES, missing
+from .asks import Ask, Members, ask_of
+from .entries import Batch
+from .scenario import Before, Scenario
+
+NEEDS = ("numpy",)
+ROUNDS = 8  # of loadings, of which that is taken with which those who hear of it lose least
+STOPPED = "stopped, and nothing is changed"
+
+
+@dataclass(frozen=True, slots=True)
+class Question:
+    """A closure of which some hear, and the scenario in which it comes: its batches, and its entries."""
+
+    ask: Ask
+    batches: list[Batch]
+    before: Before
+
+
+@dataclass(frozen=True, slots=True)
+class Found:
+    """The shares of those who hear of a closure, as edits; the entries for which they were found, and the seconds that
+    it took."""
+
+    edits: list[Edit]
+    before: Before
+    seconds: float
+
+
+def lacking() -> str:
+    """The package that is wanted to seek shares, where it is not there."""
+    return " ".join(PACKAGES[name] for name in missing(NEEDS))
+
+
+def question_of(scenario: Scenario, told: Members) -> Question:
+    """What is to be found for a closure that a browser asks for; a Fault where it is refused."""
+    if lacking():
+        raise Fault(f"other ways are sought with {lacking()}, which is not there")
+    return Question(ask_of(told, scenario.case), scenario.batches(), scenario.standing())
+
+
+def edits_for(scenario: Scenario, question: Question, done: Callable[[int], object]) -> list[Edit]:
+    """The edits of shares by which those go who hear of a closure. `done` is called before each round with how many are
+    done."""
+    from ..assign.assigning import Options
+    from ..assign.closing import Closure, respond
+
+    ask = question.ask
+    scenario.unchanged()
+    case = case_of(scenario.folder, question.batches)
+    return respond(case, Closure(ask.link, ask.first, ask.end), ask.informed, Options(iterations=ROUNDS),
+                   scenario.program, done).edits
+
+
+class Seekers:
+    """What is sought for closures, one after the other."""
+
+    def __init__(self, scenario: Scenario) -> None:
+        self.scenario, self.thread = scenario, ThreadPoolExecutor(1, "seeker")
+        self.stops: dict[object, threading.Event] = {}
+
+    async def found(self, key: object, question: Question, tell: Callable[[dict[str, object]], object]) -> Found:
+        """What is found for a closure; how far it is, is told before each round."""
+        loop, began = asyncio.get_running_loop(), time.perf_counter()
+        stop = self.stops[key] = threading.Event()
+        text = question.ask.text(self.scenario.start, self.scenario.step)
+
+        def done(rounds: int) -> None:
+            if stop.is_set():
+                raise Fault(STOPPED)
+            seconds = round(time.perf_counter() - began, 2)
+            loop.call_soon_threadsafe(tell, {"seeking": text, "rounds": rounds, "most": ROUNDS, "seconds": seconds})
+
+        done(0)
+        try:
+            edits = await loop.run_in_executor(self.thread, partial(edits_for, self.scenario, question, done))
+            return Found(edits, question.before, time.perf_counter() - began)
+        finally:
+            self.stops.pop(key, None)
+
+    def stop(self, key: object) -> None:
+        """Ends what is sought, once the round ends that is on."""
+        if (stop := self.stops.get(key)) is not None:
+            stop.set()
+
+    def close(self) -> None:
+        """Ends all that is sought."""
+        for stop in self.stops.values():
+            stop.set()
