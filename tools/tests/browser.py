@@ -1,6 +1,8 @@
-"""A headless Chromium, driven over the WebDriver protocol by Python's own library."""
+"""A headless Chromium, driven over the WebDriver protocol by Python's own library; LTM_BROWSER=firefox has the tests
+run in Firefox."""
 import base64
 import json
+import os
 import shutil
 import socket
 import subprocess
@@ -10,12 +12,15 @@ import urllib.error
 import urllib.request
 from typing import Any
 
+from firefox import FIREFOX, Firefox
 from support import FolderTest
 
 CHROMIUM, DRIVER = shutil.which("chromium"), shutil.which("chromedriver")
 NULL, SHIFT, CTRL, TAB, ENTER, RIGHT = "\ue000", "\ue008", "\ue009", "\ue004", "\ue007", "\ue014"  # in WebDriver
 HELD = (SHIFT, CTRL)
-needs_browser = unittest.skipUnless(CHROMIUM and DRIVER, "chromium and chromium-driver are not there")
+IN_FIREFOX = os.environ.get("LTM_BROWSER") == "firefox"
+needs_browser = unittest.skipUnless(FIREFOX if IN_FIREFOX else CHROMIUM and DRIVER,
+                                    f"{'firefox-esr' if IN_FIREFOX else 'chromium and chromium-driver'} is not there")
 
 
 class Browser:
@@ -128,6 +133,10 @@ class Browser:
             self.process.wait()
 
 
+class InFirefox(Firefox, Browser):
+    """A window of Firefox."""
+
+
 @needs_browser
 class BrowserTest(FolderTest):
     """A folder of its own for each test, and one browser for all of the class."""
@@ -136,7 +145,7 @@ class BrowserTest(FolderTest):
 
     @classmethod
     def setUpClass(cls) -> None:
-        cls.browser = Browser()
+        cls.browser = InFirefox() if IN_FIREFOX else Browser()
 
     @classmethod
     def tearDownClass(cls) -> None:
