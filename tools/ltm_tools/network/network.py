@@ -6,7 +6,6 @@ node or a step, are the matter of `fit`.
 """
 from __future__ import annotations
 
-import heapq
 from collections.abc import Callable, Iterable
 from dataclasses import dataclass, field, replace
 from fractions import Fraction
@@ -14,6 +13,7 @@ from fractions import Fraction
 from ..case import Link
 from ..errors import Fault
 from ..formats import HOUR_MS, MOST_JAM_PER_KM, MOST_KMH, MOST_LENGTH_M, MOST_SLOT_UNITS
+from .least import least
 from .lines import Line, Point, joined
 
 LEAST_M = Fraction(1)
@@ -207,19 +207,10 @@ class Network:
 def least_times(network: Network, destination: str, cost: Callable[[Road], Fraction | int]
                 | None = None) -> dict[str, Fraction | int]:
     """The least free-flow time in ms from each node that has a route to the destination."""
-    cost = cost or (lambda road: road.time)
-    times: dict[str, Fraction | int] = {}
-    queue: list[tuple[Fraction | int, str]] = [(0, destination)]
-    while queue:
-        time, node = heapq.heappop(queue)
-        if node in times:
-            continue
-        times[node] = time
-        for name in network.ins.get(node, ()):
-            road = network.roads[name]
-            if road.tail not in times:
-                heapq.heappush(queue, (time + cost(road), road.tail))
-    return times
+    of, roads = cost or (lambda road: road.time), network.roads
+    none: Fraction | int = 0
+    return least(destination, none, lambda node: ((roads[name].tail, of(roads[name]))
+                                                  for name in network.ins.get(node, ())))
 
 
 def least_route(network: Network, origin: str, destination: str, times: dict[str, Fraction | int]) -> list[str]:

@@ -7,12 +7,13 @@ ones, and no others.
 """
 from __future__ import annotations
 
-import heapq
+import functools
 from collections.abc import Iterable, Mapping
 from dataclasses import dataclass, field
 
 from ..case import Link
 from ..errors import Fault
+from .least import least
 
 
 @dataclass
@@ -32,20 +33,15 @@ class Roads:
             made.ins.setdefault(link.head, []).append(link.name)
         return made
 
+    @functools.cached_property
+    def before(self) -> dict[str, list[tuple[str, int]]]:
+        """Of each node that a link leads to the nodes before it, and the free-flow times from them."""
+        return {node: [(self.links[name].tail, self.links[name].free_ms) for name in names]
+                for node, names in self.ins.items()}
+
     def least_times(self, destination: str) -> dict[str, int]:
         """The least free-flow time in ms to a destination, from each node that has a route to it."""
-        times: dict[str, int] = {}
-        queue = [(0, destination)]
-        while queue:
-            time, node = heapq.heappop(queue)
-            if node in times:
-                continue
-            times[node] = time
-            for name in self.ins.get(node, ()):
-                link = self.links[name]
-                if link.tail not in times:
-                    heapq.heappush(queue, (time + link.free_ms, link.tail))
-        return times
+        return least(destination, 0, lambda node: self.before.get(node, ()))
 
 
 def strong_parts(nodes: Iterable[str], after: Mapping[str, Iterable[str]]) -> list[set[str]]:

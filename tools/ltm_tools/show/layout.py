@@ -6,10 +6,11 @@ gradient descent on stress: Zheng, Pawar and Goodman 2018). The same network giv
 """
 from __future__ import annotations
 
-import heapq
 import math
 import random
 from collections.abc import Iterable, Sequence
+
+from ..network.least import least
 
 Place = tuple[float, float]
 Neighbours = dict[str, dict[str, float]]
@@ -56,16 +57,7 @@ def parts(near: Neighbours) -> list[list[str]]:
 
 def distances(near: Neighbours, start: str) -> dict[str, float]:
     """How far each node is from one, along roads in both directions."""
-    far: dict[str, float] = {}
-    front = [(0.0, start)]
-    while front:
-        length, node = heapq.heappop(front)
-        if node not in far:
-            far[node] = length
-            for other, more in near[node].items():
-                if other not in far:
-                    heapq.heappush(front, (length + more, other))
-    return far
+    return least(start, 0.0, lambda node: near[node].items())
 
 
 def draw(part: list[str], near: Neighbours) -> dict[str, Place]:
