@@ -66,4 +66,5 @@ def leaving_origins(net: Net, departures: Departures, moments: Whole) -> Real:
     later = departures.amount * part
     places = numpy.concatenate((place, place + shape[1] * shape[2]))
     amounts = numpy.concatenate((departures.amount - later, later))
-    return numpy.bincount(places, amounts, shape[0] * shape[1] * shape[2]).reshape(shape)
+    found = numpy.bincount(places, amounts, shape[0] * shape[1] * shape[2])
+    return numpy.asarray(found, dtype=numpy.float64).reshape(shape)
