@@ -1,19 +1,27 @@
 -- Settled pairs are dropped on the way to a pair to be worked on.
-use Rattle.std.specs.Prelude.{◌≡◌, ◌≢◌, ℕ, ◌<◌, Some, true, false}
+use Rattle.std.specs.Prelude.{◌≡◌, ◌≢◌, ℕ, ◌<◌, Some, Bool, IsTrue, IsFalse, true, false}
 use Rattle.ltm_node.specs.Inputs.{Inputs}
 use Rattle.ltm_node.specs.Solvable.{IsSolvable}
 use Rattle.ltm_loading.specs.Setting.{Setting}
 use Rattle.ltm_loading.specs.Pairs.{pair_row}
 use Rattle.ltm_loading.specs.Uncounted.{IsUncountedPair}
-use Rattle.ltm_repair.specs.Desk.{Desk, IsOther, IsIdleBefore}
+use Rattle.ltm_repair.specs.Desk.{Desk, IsOther, IsSettled, IsIdleBefore}
+use Rattle.ltm_repair.specs.Index.{IsPlaced}
 use Rattle.ltm_repair.specs.Moves.{DropsSettled}
 use Rattle.ltm_working.specs.declared.table.Table.{Table}
+use Rattle.ltm_working.specs.Desks.{desk_at, place_of}
+use Rattle.ltm_working.specs.Ready.{IsReady}
 
 -- one settled pair is dropped
 pub record DropsOne (s : Setting) (old : Desk) (u t : ℕ) (new : Desk) : Type 0 where
   pub drops : DropsSettled s old new
   pub here : new.active u t ≡ false
   pub others : (w v : ℕ) → IsOther u t w v → new.active w v ≡ old.active w v
+
+-- nothing is left to do of a table before a slot
+pub record IsReadyAt (s : Setting) (t : Table) (slot : ℕ) : Type 0 where
+  pub ready : IsReady s t
+  pub idle : IsIdleBefore s (desk_at s t) slot
 
 -- settled pairs of one slot are dropped
 pub record DropsAt (s : Setting) (old : Desk) (slot : ℕ) (new : Desk) : Type 0 where
@@ -28,7 +36,18 @@ pub record IsWork (s : Setting) (d : Desk) (u t : ℕ) (n : Inputs) : Type 0 whe
   pub solvable : IsSolvable n
   pub changed : d.kept u t ≢ Some (pair_row s d.counts u t)
 
--- such a pair of the front slot
+-- it stands in the index with its positions
+pub record IsPlacedWork (s : Setting) (t : Table) (u v : ℕ) (n : Inputs) : Type 0 where
+  pub work : IsWork s (desk_at s t) u v n
+  pub placed : IsPlaced s (desk_at s t) (place_of t.index) u v
+
+-- a pair that was looked at stands there too; it is settled where its inputs are the kept ones, and work where not
+pub record IsReread (s : Setting) (t : Table) (u v : ℕ) (kept : Bool) (n : Inputs) : Type 0 where
+  pub placed : IsPlaced s (desk_at s t) (place_of t.index) u v
+  pub settled : IsTrue kept → IsSettled s (desk_at s t) u v
+  pub work : IsFalse kept → IsWork s (desk_at s t) u v n
+
+-- such work of the front slot
 pub record HasWork (s : Setting) (d : Desk) (u t : ℕ) (n : Inputs) : Type 0 where
   pub is_slot : t < s.slots
   pub idle : IsIdleBefore s d t

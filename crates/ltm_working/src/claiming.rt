@@ -2,13 +2,13 @@
 //!
 //! Pairs are claimed slot by slot, from the front on: what a pair of the front slot reads is final. A pair that is active
 //! and reads what is kept of it is dropped on the way.
-ghost use Rattle.std.specs.Prelude.{◌≡◌, ◌<◌, ◌≤◌, ℕ, MatchOption, IfSome, IsTrue, IsFalse, true};
+ghost use Rattle.std.specs.Prelude.{◌≡◌, ◌<◌, ◌≤◌, ℕ, MatchOption, true};
 ghost use Rattle.ltm_node.specs.Solvable.{IsSolvable};
 ghost use Rattle.ltm_setting.specs.Setting.{setting_of};
 ghost use Rattle.ltm_frontier.specs.Frontier.{is_active};
 ghost use Rattle.ltm_repair.specs.Answers.{HasClaimAt, IsNoneClaimed};
-ghost use Rattle.ltm_repair.specs.Desk.{IsSettled, IsIdleBefore, IsAtRest};
-ghost use Rattle.ltm_repair.specs.Moves.{DropsSettled, TakesClaim};
+ghost use Rattle.ltm_repair.specs.Desk.{IsSettled};
+ghost use Rattle.ltm_repair.specs.Moves.{TakesClaim};
 ghost use Rattle.ltm_repair.specs.Index.{IsPlaced};
 ghost use Rattle.ltm_working.specs.Searching.{AnswersSearch, FitsFound, IsFound, Finds, answer_of};
 ghost use Rattle.ltm_setting.specs.Places.{IsBoundary, IsNode, IsSlot, node_shape};
@@ -27,31 +27,22 @@ use ltm_units::{NodeId, Pair};
 
 impl Table {
     ghost use Rattle.ltm_working.specs.Desks.{place_of};
-    ghost use Rattle.ltm_working.specs.Dropping.{DropsOne, DropsAt, IsWork, HasWork, NoneActive, SameWorkAs};
+    ghost use Rattle.ltm_working.specs.Dropping.{IsReadyAt, IsReread, DropsOne, DropsAt, IsPlacedWork, NoneActive, SameWorkAs};
 
     /// Reads the inputs of an active pair at the front but for its counts, and places its positions; whether the inputs are
     /// the kept ones.
     fn reread(&mut self, scenario: &Scenario, pair: Pair, inputs: &mut NodeInputs) -> bool
-        requires ready { IsReadyFor scenario.now self.old }
+        requires ready { IsReadyAt (setting_of scenario.now) self.old pair.slot }
         requires node { IsNode scenario.now pair.node.0 }
         requires slot { IsSlot scenario.now pair.slot }
-        requires idle { IsIdleBefore (setting_of scenario.now)
-            (desk_for scenario.now self.old) pair.slot }
         requires active { is_active self.old.frontier pair.node.0 pair.slot ≡ true }
         requires room { widest_row ≤ inputs.old.room }
         ensures ready { IsReadyFor scenario.now self.new }
         ensures desk { desk_for scenario.now self.new
             ≡ desk_for scenario.now self.old }
         ensures same { self.new ≡ record self.old { index = self.new.index } }
-        ensures placed { IsPlaced (setting_of scenario.now)
-            (desk_for scenario.now self.new)
-            (place_of self.new.index) pair.node.0 pair.slot }
-        ensures settled { IsTrue result
-            → IsSettled (setting_of scenario.now)
-            (desk_for scenario.now self.new) pair.node.0 pair.slot }
-        ensures work { IsFalse result
-            → IsWork (setting_of scenario.now)
-            (desk_for scenario.now self.new) pair.node.0 pair.slot inputs.new }
+        ensures read { IsReread (setting_of scenario.now) self.new
+            pair.node.0 pair.slot result inputs.new }
         ensures room { inputs.new.room ≡ inputs.old.room }
     {
         is_setting(scenario);
@@ -64,11 +55,9 @@ impl Table {
 
     /// Drops an active pair that is settled and placed.
     fn drop_settled(&mut self, scenario: &Scenario, pair: Pair)
-        requires ready { IsReadyFor scenario.now self.old }
+        requires ready { IsReadyAt (setting_of scenario.now) self.old pair.slot }
         requires node { IsNode scenario.now pair.node.0 }
         requires slot { IsSlot scenario.now pair.slot }
-        requires idle { IsIdleBefore (setting_of scenario.now)
-            (desk_for scenario.now self.old) pair.slot }
         requires active { is_active self.old.frontier pair.node.0 pair.slot ≡ true }
         requires settled { IsSettled (setting_of scenario.now)
             (desk_for scenario.now self.old) pair.node.0 pair.slot }
@@ -88,10 +77,8 @@ impl Table {
     /// pairs before it are dropped; where there is none, all active pairs of the slot.
     #[inline(always)]
     fn find_at(&mut self, scenario: &Scenario, slot: u32, inputs: &mut NodeInputs) -> Option<NodeId>
-        requires ready { IsReadyFor scenario.now self.old }
+        requires ready { IsReadyAt (setting_of scenario.now) self.old slot }
         requires slot { IsSlot scenario.now slot }
-        requires idle { IsIdleBefore (setting_of scenario.now)
-            (desk_for scenario.now self.old) slot }
         requires room { widest_row ≤ inputs.old.room }
         ensures ready { IsReadyFor scenario.now self.new }
         ensures drops { DropsAt (setting_of scenario.now)
@@ -100,10 +87,7 @@ impl Table {
         ensures found { MatchOption result
             (NoneActive (desk_for scenario.now self.new) slot
             (setting_of scenario.now).nodes)
-            (λ node. IsWork (setting_of scenario.now)
-            (desk_for scenario.now self.new) node.0 slot inputs.new) }
-        ensures placed { IfSome result (λ node. IsPlaced (setting_of scenario.now)
-            (desk_for scenario.now self.new) (place_of self.new.index) node.0 slot) }
+            (λ node. IsPlacedWork (setting_of scenario.now) self.new node.0 slot inputs.new) }
         ensures same { SameWorkAs self.old self.new }
         ensures room { inputs.new.room ≡ inputs.old.room }
     {
@@ -165,48 +149,9 @@ impl Table {
 
     /// The first pair to be worked on, from a slot on before which every pair is idle, where none is claimed.
     #[inline(always)]
-    fn first_work(
-        &mut self,
-        scenario: &Scenario,
-        front: u32,
-        inputs: &mut NodeInputs,
-    ) -> Option<Pair>
-        requires ready { IsReadyFor scenario.now self.old }
-        requires front { IsBoundary scenario.now front }
-        requires idle { IsIdleBefore (setting_of scenario.now)
-            (desk_for scenario.now self.old) front }
-        requires none { IsNoneClaimed (setting_of scenario.now)
-            (desk_for scenario.now self.old) }
-        requires room { widest_row ≤ inputs.old.room }
-        ensures ready { IsReadyFor scenario.now self.new }
-        ensures drops { DropsSettled (setting_of scenario.now)
-            (desk_for scenario.now self.old)
-            (desk_for scenario.now self.new) }
-        ensures found { MatchOption result
-            (IsAtRest (setting_of scenario.now) (desk_for scenario.now self.new))
-            (λ pair. HasWork (setting_of scenario.now)
-            (desk_for scenario.now self.new) pair.node.0 pair.slot inputs.new) }
-        ensures placed { IfSome result
-            (λ pair. IsPlaced (setting_of scenario.now) (desk_for scenario.now self.new)
-            (place_of self.new.index) pair.node.0 pair.slot) }
-        ensures same { SameWorkAs self.old self.new }
-        ensures room { inputs.new.room ≡ inputs.old.room }
-    {
-        for slot in front..slot_count(scenario) {
-            if let Some(node) = self.find_at(scenario, slot, inputs) {
-                return Some(Pair { node, slot });
-            }
-        }
-        None
-    }
-
-    /// The first pair to be worked on, where none is claimed.
-    #[inline(always)]
     fn find_first(&mut self, scenario: &Scenario, front: u32, inputs: &mut NodeInputs) -> Found
-        requires ready { IsReadyFor scenario.now self.old }
+        requires ready { IsReadyAt (setting_of scenario.now) self.old front }
         requires front { IsBoundary scenario.now front }
-        requires idle { IsIdleBefore (setting_of scenario.now)
-            (desk_for scenario.now self.old) front }
         requires none { IsNoneClaimed (setting_of scenario.now)
             (desk_for scenario.now self.old) }
         requires room { widest_row ≤ inputs.old.room }
@@ -216,20 +161,20 @@ impl Table {
         ensures same { SameWorkAs self.old self.new }
         ensures room { inputs.new.room ≡ inputs.old.room }
     {
-        match self.first_work(scenario, front, inputs) {
-            Some(pair) => return Found::Work(pair),
-            None => return Found::Rest,
+        for slot in front..slot_count(scenario) {
+            if let Some(node) = self.find_at(scenario, slot, inputs) {
+                return Found::Work(Pair { node, slot });
+            }
         }
+        Found::Rest
     }
 
     /// The least slot of a pair that is active or claimed, or the horizon. It is not sought below that slot again until a
     /// pair there becomes active.
     fn front(&mut self, scenario: &Scenario) -> u32
         requires { IsReadyFor scenario.now self.old }
-        ensures ready { IsReadyFor scenario.now self.new }
+        ensures ready { IsReadyAt (setting_of scenario.now) self.new result }
         ensures within { IsBoundary scenario.now result }
-        ensures idle { IsIdleBefore (setting_of scenario.now)
-            (desk_for scenario.now self.new) result }
         ensures claims { (v : ℕ)
             → HasClaimAt (setting_of scenario.now) (desk_for scenario.now self.new) v
             → v ≡ result }

@@ -12,7 +12,7 @@ use Rattle.ltm_working.proofs.table.Table.find.Goals as goal
 pub find_beside-requires-clause-out : goal.find_beside-requires-clause-out
 find_beside-requires-clause-out c =
     let s = setting_of c.args.scenario.now in
-    let has : HasClaimAt s (desk_at s c.front-front.new.self) (slot_in c.front-front.new.self.frontier.claims) = some_claimed s c.front-front.new.self c.front-front.ensures.ready (omega (arith, c.if-claimed-gt0.true, c.claimed.ensures.count)) in
+    let has : HasClaimAt s (desk_at s c.front-front.new.self) (slot_in c.front-front.new.self.frontier.claims) = some_claimed s c.front-front.new.self c.front-front.ensures.ready.ready (omega (arith, c.if-claimed-gt0.true, c.claimed.ensures.count)) in
     subst (λ (v : ℕ). HasClaimAt s (desk_at s c.front-front.new.self) v) (c.front-front.ensures.claims (slot_in c.front-front.new.self.frontier.claims) has) has
 
 pub returns-then-claimed-gt0-clause-finds : goal.returns-then-claimed-gt0-clause-finds
@@ -26,7 +26,7 @@ returns-then-claimed-gt0-clause-changed c =
     changed_stays s c.front-front.new.self c.find_beside.new.self c.find_beside.ensures.same ∙ changed_stays s c.args.self.now c.front-front.new.self c.front-front.ensures.same
 
 pub find_first-requires-clause-none : goal.find_first-requires-clause-none
-find_first-requires-clause-none c = none_claimed (setting_of c.args.scenario.now) c.front-front.new.self c.front-front.ensures.ready (omega (arith, c.if-claimed-gt0.false, c.claimed.ensures.count))
+find_first-requires-clause-none c = none_claimed (setting_of c.args.scenario.now) c.front-front.new.self c.front-front.ensures.ready.ready (omega (arith, c.if-claimed-gt0.false, c.claimed.ensures.count))
 
 pub returns-clause-finds : goal.returns-clause-finds
 returns-clause-finds c =

@@ -15,10 +15,10 @@ returns-in_default-clause-found c =
     none_left (setting_of c.args.scenario.now) c.loop-from.self c.args.slot c.loop-from.from.0 (setting_of c.args.scenario.now).nodes c.requires.slot (sym c.node_count-nodes.ensures.value ∙ c.node_count-nodes.ensures.value)
     c.loop-from.invariant.none c.in_default.ensures (sym c.loop-from.invariant.ready.fits.frontier.nodes)
 
-pub reread-requires-clause-idle : goal.reread-requires-clause-idle
-reread-requires-clause-idle c =
+pub reread-requires-clause-ready : goal.reread-requires-clause-ready
+reread-requires-clause-ready c =
     let s = setting_of c.args.scenario.now in
-    drop_idle_before s (desk_at s c.args.self.now) (desk_at s c.loop-from.self) c.args.slot c.loop-from.invariant.drops.drops c.requires.idle
+    record { ready = c.loop-from.invariant.ready; idle = drop_idle_before s (desk_at s c.args.self.now) (desk_at s c.loop-from.self) c.args.slot c.loop-from.invariant.drops.drops c.requires.ready.idle }
 
 -- where the desk is the same, so is what was dropped
 seen : (s : Setting) (d m e : Desk) (slot : ℕ) → e ≡ m → DropsAt s d slot m → DropsAt s d slot e
@@ -29,22 +29,22 @@ returns-then-not-reread-clause-drops c =
     seen (setting_of c.args.scenario.now) (desk_at (setting_of c.args.scenario.now) c.args.self.now) (desk_at (setting_of c.args.scenario.now) c.loop-from.self) (desk_at (setting_of c.args.scenario.now) c.reread.new.self) c.args.slot c.reread.ensures.desk c.loop-from.invariant.drops
 
 pub returns-then-not-reread-clause-found : goal.returns-then-not-reread-clause-found
-returns-then-not-reread-clause-found c = c.reread.ensures.work c.if-not-reread.true
+returns-then-not-reread-clause-found c = record { work = c.reread.ensures.read.work c.if-not-reread.true; placed = c.reread.ensures.read.placed }
 
 pub returns-then-not-reread-clause-same : goal.returns-then-not-reread-clause-same
 returns-then-not-reread-clause-same c = seen_trans c.args.self.now c.loop-from.self c.reread.new.self c.loop-from.invariant.same c.reread.ensures.same
 
-pub drop_settled-requires-clause-idle : goal.drop_settled-requires-clause-idle
-drop_settled-requires-clause-idle c =
+pub drop_settled-requires-clause-ready : goal.drop_settled-requires-clause-ready
+drop_settled-requires-clause-ready c =
     let s = setting_of c.args.scenario.now in
-    drop_idle_before s (desk_at s c.args.self.now) (desk_at s c.reread.new.self) c.args.slot (seen s (desk_at s c.args.self.now) (desk_at s c.loop-from.self) (desk_at s c.reread.new.self) c.args.slot c.reread.ensures.desk c.loop-from.invariant.drops).drops c.requires.idle
+    record { ready = c.reread.ensures.ready; idle = drop_idle_before s (desk_at s c.args.self.now) (desk_at s c.reread.new.self) c.args.slot (seen s (desk_at s c.args.self.now) (desk_at s c.loop-from.self) (desk_at s c.reread.new.self) c.args.slot c.reread.ensures.desk c.loop-from.invariant.drops).drops c.requires.ready.idle }
 
 pub drop_settled-requires-clause-active : goal.drop_settled-requires-clause-active
 drop_settled-requires-clause-active c =
     ap (λ (z : Table). is_active z.frontier c.in-Some.node.0 c.args.slot) c.reread.ensures.same ∙ c.in-Some.ensures.active
 
 pub drop_settled-requires-clause-settled : goal.drop_settled-requires-clause-settled
-drop_settled-requires-clause-settled c = c.reread.ensures.settled c.if-not-reread.false
+drop_settled-requires-clause-settled c = c.reread.ensures.read.settled c.if-not-reread.false
 
 pub loop-from-preserved : goal.loop-from-preserved
 loop-from-preserved c =

@@ -5,7 +5,7 @@ use Rattle.ltm_repair.specs.Moves.{DropsSettled}
 use Rattle.ltm_working.specs.Desks.{desk_at}
 use Rattle.ltm_working.specs.Ready.{IsReady}
 use Rattle.ltm_working.specs.Dropping.{SameWorkAs}
-use Rattle.ltm_working.proofs.table.Table.first_work.Given as goal
+use Rattle.ltm_working.proofs.table.Table.find_first.Given as goal
 
 abbrev pub invariant-loop-slot : goal.invariant-loop-slot
 invariant-loop-slot l = record {
