@@ -10,6 +10,7 @@ pub mod Mixing
 pub mod Cells
 pub mod Copying
 pub mod Adding
+pub mod Moving
 pub mod Longer
 pub mod Kept
 pub mod TotalPlaces

@@ -18,6 +18,7 @@ use std::alloc::Global;
 
 mod adding;
 mod copies;
+mod moving;
 mod room;
 mod row_totals;
 mod totals;

@@ -1,7 +1,7 @@
 -- Outputs as the counts at a slot's end.
-use Rattle.std.proofs.Common.{◌≡◌, ℕ, zero, suc, ◌+◌, ◌^◌, ◌<◌, ◌≤◌, List, [], ◌∷◌, length, slice_index, Bool, Fits, w64, refl, ap, sym, ◌∙◌, subst, arith}
-use Rattle.std.specs.Prelude.{take}
-use Rattle.std.proofs.lemmas.List.{ext_get_or, length-take-le}
+use Rattle.std.proofs.Common.{◌≡◌, ℕ, zero, suc, ◌+◌, ◌^◌, ◌<◌, ◌==◌, not, true, false, List, [], ◌∷◌, length, slice_index, Bool, Fits, w64, refl, ap, sym, ◌∙◌, subst, arith, inl, inr}
+use Rattle.std.proofs.lemmas.Bool.{cases_Bool, cases_eq}
+use Rattle.std.proofs.lemmas.List.{ext_get_or}
 use Rattle.ltm_curve.specs.Counts.{Counts}
 use Rattle.ltm_curve.specs.declared.curves.Curves.{Curves}
 use Rattle.ltm_curve.specs.declared.changed.Changed.{Changed}
@@ -29,6 +29,7 @@ use Rattle.ltm_working.specs.Renewed.{FitsRenewal}
 use Rattle.ltm_working.specs.Counted.{counted_number, counted_row, counts_by_form}
 use Rattle.ltm_working.specs.Waking.{row_differs}
 use Rattle.ltm_working.specs.Rewriting.{row_at_end, FitsRow, RenewsRow}
+use Rattle.ltm_working.proofs.Bools.{one_below, none_below, differ, do_not_differ}
 use Rattle.ltm_working.proofs.Renewals.{arms_set}
 
 -- ---- the row of a group
@@ -61,12 +62,26 @@ pub sum_fits : (c : Curves) (x : Changed) (g t a d : ℕ) (before moves : List �
     a ≡ slice_index before d → Fits w64 (a + slice_index moves d)
 sum_fits c x g t a d before moves fits l stands at = omega (arith, at, stands d (omega (arith, l, fits.count)), fits.small d l)
 
--- what is written are the counts, where it is what was read and what moves
-pub sums_written : (c : Curves) (x : Changed) (g t n : ℕ) (before moves xs room : List ℕ) → FitsRow Moved c x g t moves → n ≡ length (take (length moves) room) → length moves ≤ length room → length xs ≡ n →
-    ((d : ℕ) → d < length xs → slice_index xs d ≡ slice_index before d + slice_index moves d) → ((e : ℕ) → e < destinations_of c → slice_index before e ≡ counts_of c g e t) → xs ≡ row_at_end Moved c g t moves
-sums_written c x g t n before moves xs room fits wide within long each stands =
-    let same : length xs ≡ length moves = omega (arith, long, wide, length-take-le (length moves) room within) in
-    sums_are (counts_of c) g t xs moves same (λ d l. each d (omega (arith, l, same)) ∙ ap (λ (z : ℕ). z + slice_index moves d) (stands d (omega (arith, l, fits.count))))
+-- counts that are those that stand there already, and others
+pub moved_like : (c : Curves) (x : Changed) (g t : ℕ) (moves : List ℕ) → FitsRow Moved c x g t moves → ((d : ℕ) → d < length moves → counts_of c g d (t + 1) ≡ counts_of c g d t + slice_index moves d) →
+    row_differs (destinations_of c) (counts_of c) g (t + 1) (slice_index (row_at_end Moved c g t moves)) ≡ false
+moved_like c x g t moves fits same =
+    none_below (destinations_of c) (λ d. not (counts_of c g d (t + 1) == slice_index (row_at_end Moved c g t moves) d))
+    (λ d l. let within : d < length moves = omega (arith, l, fits.count) in do_not_differ (counts_of c g d (t + 1)) (slice_index (row_at_end Moved c g t moves) d) (same d within ∙ sym (sum_at (counts_of c) g t d moves within)))
+
+pub moved_unlike : (c : Curves) (x : Changed) (g t : ℕ) (moves : List ℕ) → FitsRow Moved c x g t moves → (((d : ℕ) → d < length moves → counts_of c g d (t + 1) ≡ counts_of c g d t + slice_index moves d) → ⊥) →
+    row_differs (destinations_of c) (counts_of c) g (t + 1) (slice_index (row_at_end Moved c g t moves)) ≡ true
+moved_unlike c x g t moves fits apart =
+    let row : ℕ → ℕ = slice_index (row_at_end Moved c g t moves) in
+    elim (cases_Bool (row_differs (destinations_of c) (counts_of c) g (t + 1) row)) [
+      | inl some ↦ some
+      | inr none ↦ absurd (apart (λ d l. elim (cases_eq (counts_of c g d (t + 1)) (row d)) [
+        | inl same ↦ same ∙ sum_at (counts_of c) g t d moves l
+        | inr other ↦
+            let on : row_differs (destinations_of c) (counts_of c) g (t + 1) row ≡ true = one_below (destinations_of c) (λ e. not (counts_of c g e (t + 1) == row e)) d (omega (arith, l, fits.count)) (differ (counts_of c g d (t + 1)) (row d) other) in
+            absurd (cc)
+      ]))
+    ]
 
 -- what moves may be set where the counts may that it makes
 pub fits_sums : (c : Curves) (x : Changed) (g t : ℕ) (xs moves : List ℕ) → xs ≡ row_at_end Moved c g t moves → FitsRow Moved c x g t moves → FitsRow Counted c x g t xs

@@ -2,7 +2,7 @@
 //!
 //! They are given as they are, or as what has moved since the slot's beginning: then they are those of the slot's beginning
 //! and what has moved, which are nowhere written but where they are set. Of one, two and four numbers, as with so many
-//! destinations, they are made without a loop.
+//! destinations, they are made without a loop, and of others they are written as they are compared.
 ghost use Rattle.std.specs.Prelude.{◌≡◌, ◌==◌, ◌&&◌, ◌+◌, ◌<◌, ◌≤◌, ◌^◌, ℕ, length, slice_index, None};
 ghost use Rattle.ltm_curve.specs.Table.{counts_of};
 ghost use Rattle.ltm_curve.specs.Cells.{HasCells};
@@ -63,58 +63,8 @@ fn renew_counts(
     renew_row(curves, changed, group, slot, counts)
 }
 
-/// Writes counts and what has moved onto them.
-fn write_sums(before: &[u32], moves: &[u64], into: &mut [u64])
-    requires before { length before.now ≡ length into.old }
-    requires moves { length moves.now ≡ length into.old }
-    requires small { (i : ℕ) → i < length into.old
-        → slice_index before.now i + slice_index moves.now i < 2 ^ 64 }
-    ensures { (i : ℕ) → i < length into.new
-        → slice_index into.new i ≡ slice_index before.now i + slice_index moves.now i }
-{
-    for place in 0..into.len() {
-        into[place] = u64::from(before[place]) + moves[place];
-    }
-}
-
-/// Sets the counts of a group at a slot's end to those of its beginning and what has moved, which are written into a room
-/// first; whether some count was another one.
-fn renew_in(
-    curves: &mut Curves,
-    changed: &mut Changed,
-    group: u32,
-    slot: u32,
-    moves: &[u64],
-    room: &mut [u64],
-) -> bool
-    requires row { FitsRow Moved curves.old changed.old group slot moves.now }
-    requires room { length moves.now ≤ length room.old }
-    ensures { RenewsRow Moved curves.old changed.old group slot moves.now result curves.new
-        changed.new }
-{
-    let counts = &mut room[..moves.len()];
-    write_sums(curves.row(group, slot), moves, counts);
-    renew_row(curves, changed, group, slot, counts)
-}
-
-/// The same in a room for all destinations that there may be. Kept out of line, since it is cleared at each call.
-#[inline(never)]
-fn renew_wide(
-    curves: &mut Curves,
-    changed: &mut Changed,
-    group: u32,
-    slot: u32,
-    moves: &[u64],
-) -> bool
-    requires { FitsRow Moved curves.old changed.old group slot moves.now }
-    ensures { RenewsRow Moved curves.old changed.old group slot moves.now result curves.new
-        changed.new }
-{
-    let _most = curves.destinations();
-    renew_in(curves, changed, group, slot, moves, &mut [0; 256])
-}
-
-/// The same for any count of destinations, and with four without a loop. Kept out of line.
+/// Sets the counts of a group at a slot's end to those of its beginning and what has moved, for three destinations or more, and
+/// for four without a loop; whether some count was another one. Kept out of line.
 #[inline(never)]
 fn renew_many(
     curves: &mut Curves,
@@ -123,7 +73,8 @@ fn renew_many(
     slot: u32,
     moves: &[u64],
 ) -> bool
-    requires { FitsRow Moved curves.old changed.old group slot moves.now }
+    requires row { FitsRow Moved curves.old changed.old group slot moves.now }
+    requires several { 3 ≤ length moves.now }
     ensures { RenewsRow Moved curves.old changed.old group slot moves.now result curves.new
         changed.new }
 {
@@ -141,13 +92,11 @@ fn renew_many(
             &[first, second, third, fourth],
         );
     }
-    if moves.len() <= 8 {
-        return renew_in(curves, changed, group, slot, moves, &mut [0; 8]);
+    if !curves.move_row(group, slot, moves) {
+        return false;
     }
-    if moves.len() <= 64 {
-        return renew_in(curves, changed, group, slot, moves, &mut [0; 64]);
-    }
-    renew_wide(curves, changed, group, slot, moves)
+    changed.put(group, slot + 1);
+    true
 }
 
 /// The same, with one and with two destinations without a loop.
@@ -173,12 +122,15 @@ fn renew_moves(
         let only = u64::from(before[0]) + moves[0];
         return renew_row(curves, changed, group, slot, &[only]);
     }
+    if moves.is_empty() {
+        return false;
+    }
     renew_many(curves, changed, group, slot, moves)
 }
 
 /// Sets the counts of a group at a slot's end, and no others; whether some count was another one. If so the cell is noted as
-/// changed, and else nothing is written.
-#[inline]
+/// changed.
+#[inline(always)]
 pub(crate) fn renew(
     curves: &mut Curves,
     changed: &mut Changed,
