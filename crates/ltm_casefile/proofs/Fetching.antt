@@ -12,7 +12,7 @@ use Rattle.ltm_casefile.specs.declared.faults.CaseFault.{CaseFault}
 use Rattle.ltm_casefile.specs.declared.faults.CaseFault.TheVariants.{Folder, TooLong, Bad, NoMemory}
 use Rattle.ltm_casefile.specs.declared.setup.Asked.{Asked}
 use Rattle.ltm_casefile.specs.declared.setup.Opened.{Opened}
-use Rattle.ltm_casefile.specs.Case.{CaseTexts, texts_of, limit_texts_of, parts_of, opened_of, asked_by, is_of_each, is_asked, is_case_file, asks_for}
+use Rattle.ltm_casefile.specs.Case.{CaseTexts, texts_of, limit_texts_of, parts_of, opened_of, asked_by, is_of_each, is_asked, asks_for}
 use Rattle.ltm_casefile.specs.Setup.{setup_of}
 use Rattle.ltm_casefile.specs.Folder.{doc_of}
 use Rattle.ltm_casefile.specs.Faults.{Agrees, NotGiven, HasRisen, WasAsked}

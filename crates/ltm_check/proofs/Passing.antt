@@ -1,8 +1,7 @@
 -- Texts that pass a piece at a time, one behind another.
 use Rattle.std.proofs.Common.{ℕ, suc, ◌≡◌, ◌+◌, ◌-◌, ◌≤◌, ◌<◌, List, [], ◌++◌, length, take, drop, Option, Some, None, Ok, Err, refl, ap, sym, subst, ◌∙◌, append_assoc, take-add, arith, length-drop, length-append}
 use Rattle.std.specs.Prelude.{OnErr, Result}
-use Rattle.std.proofs.lemmas.List.{append-nil, take-append-drop, take-append-le, drop-append-le, drop-drop, drop_all}
-use Rattle.std.proofs.Math.Seq.{take-length}
+use Rattle.std.proofs.lemmas.List.{append-nil, take-append-le, drop-append-le, drop-drop}
 use Rattle.ltm_io.specs.Sink.{appended, AppendsFront}
 use Rattle.ltm_units.specs.Texts.{texts_below}
 use Rattle.ltm_check.specs.Passing.{Passes}

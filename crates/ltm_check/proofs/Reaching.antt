@@ -16,7 +16,7 @@ use Rattle.ltm_check.specs.declared.faults.CurvesFault.TheVariants.{Bad}
 use Rattle.ltm_check.specs.declared.faults.FileFault.{FileFault}
 use Rattle.ltm_check.specs.declared.faults.FileFault.TheVariants as file
 use Rattle.ltm_check.specs.Due.{record_count}
-use Rattle.ltm_check.specs.File.{is_curves_header, is_headed, rows_of, fault_at, AreRightBelow, IsCurveFile, told}
+use Rattle.ltm_check.specs.File.{rows_of, fault_at, AreRightBelow, IsCurveFile, told}
 use Rattle.ltm_check.specs.Faults.{IsFault}
 use Rattle.ltm_check.specs.Kept.{Keeps}
 use Rattle.ltm_check.specs.Pieces.{IsReadTo, HasRead, CutAtLineEnd, AnswersFile, EndsWith}

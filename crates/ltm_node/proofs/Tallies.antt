@@ -1,20 +1,18 @@
 -- What is kept of each turn while the arms move.
 use Rattle.std.proofs.Common.{◌≡◌, ℕ, ◌+◌, ◌-◌, ◌*◌, ◌/◌, ◌<◌, true, List, get_or, slice_index, arith, refl, ap, sym, subst, ◌∙◌}
 use Rattle.ltm_units.specs.Nested.{nested_split}
-use Rattle.ltm_units.proofs.Sums.{sum_below_more}
 use Rattle.ltm_shares.specs.Sent.{sent_at}
-use Rattle.ltm_shares.specs.declared.sent.Sent.{Sent}
 use Rattle.ltm_node.specs.declared.portion.Portion.{Portion}
 use Rattle.ltm_node.specs.declared.turns.Turns.{Turns}
 use Rattle.ltm_node.specs.Inputs.{Inputs}
 use Rattle.ltm_node.specs.Demands.{part, sent_into}
 use Rattle.ltm_node.specs.Portion.{denominator, numerator}
 use Rattle.ltm_node.specs.Splitting.{IsSplitUpTo}
-use Rattle.ltm_node.specs.Step.{parts_into, turned, moved}
+use Rattle.ltm_node.specs.Step.{parts_into, turned}
 use Rattle.ltm_node.specs.Moving.{Passes}
-use Rattle.ltm_node.specs.Tally.{HasMovedTo, IsLeftOf}
+use Rattle.ltm_node.specs.Tally.{IsLeftOf}
 use Rattle.ltm_node.proofs.Ranges.{nothing_of}
-use Rattle.ltm_node.proofs.Moved.{moved_none, parts_long, parts_at, parts_sum}
+use Rattle.ltm_node.proofs.Moved.{parts_long, parts_at, parts_sum}
 use Rattle.ltm_node.proofs.Splitting.{split_next}
 
 -- a turn at a tally of which both numbers are the same
