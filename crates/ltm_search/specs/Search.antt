@@ -39,6 +39,10 @@ AllFit w a = (link : ℕ) → link < w.links → fits_over w a link ≡ true
 abbrev pub waiting : ℕ → ℕ → Waiting
 waiting time node = record { time = record { 0 = time }; node = node }
 
+-- no node waits
+abbrev pub IsIdle : Search → Type 0
+IsIdle s = heap_items s.waiting ≡ []
+
 abbrev pub IsWaiting : List Waiting → ℕ → Option Millis → Type 0
 IsWaiting q node None = ⊥
 IsWaiting q node (Some time) = Contains q (waiting time.0 node)

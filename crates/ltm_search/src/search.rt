@@ -7,7 +7,7 @@ ghost use Rattle.std.specs.Prelude.{◌≡◌, ℕ, ◌<◌, ◌≤◌, List, []
 ghost use Rattle.std.specs.List.Sorted.{IsPermutation};
 ghost use Rattle.std.specs.BinaryHeap.{heap_items};
 ghost use Rattle.ltm_search.specs.Arrivals.{arrivals_of, arrival_at, AreEarliest, AreBy};
-ghost use Rattle.ltm_search.specs.Search.{millis, waiting, Searches, Looks, Visits, LooksAt, is_earlier, is_current, IsNoMore};
+ghost use Rattle.ltm_search.specs.Search.{millis, waiting, IsIdle, Searches, Looks, Visits, LooksAt, is_earlier, is_current, IsNoMore};
 
 use crate::links::Links;
 use ltm_units::{LinkId, Millis, NoMemory, NodeId};
@@ -99,7 +99,7 @@ impl Search {
     pub fn clear(&mut self)
         ensures arrivals { (node : ℕ) → arrival_at (arrivals_of self.new) node ≡ None }
         ensures one_for_each { length (arrivals_of self.new) ≡ length (arrivals_of self.old) }
-        ensures waiting { heap_items self.new.waiting ≡ [] }
+        ensures idle { IsIdle self.new }
     {
         for node in 0..self.arrivals.len() {
             self.arrivals[node] = None;

@@ -11,7 +11,7 @@ look-requires-clause-search g c =
     let w = g.L.Links.ways c.args.links.now in
     let bound = g.L.Links.bound c.args.links.now in
     let q = heap_items c.arrive.new.self.waiting in
-    let put : IsPermutation (waiting c.args.start.0 c.args.from.0 ∷ []) q = subst (λ q0. IsPermutation (waiting c.args.start.0 c.args.from.0 ∷ q0) q) c.clear.ensures.waiting c.in_ok-arrive.ensures.waiting in
+    let put : IsPermutation (waiting c.args.start.0 c.args.from.0 ∷ []) q = subst (λ q0. IsPermutation (waiting c.args.start.0 c.args.from.0 ∷ q0) q) c.clear.ensures.idle c.in_ok-arrive.ensures.waiting in
     subst (λ (x : Waiting). IsSearch w bound x.node x.time.0 c.arrive.new.self.arrivals.items q []) (sym c.in_ok-arrive.ensures.first)
     (begins w bound c.args.from.0 c.args.start.0 c.clear.new.self.arrivals.items c.arrive.new.self.arrivals.items q c.keep_ways.ensures (c.clear.ensures.one_for_each ∙ c.requires.one_for_each)
     c.clear.ensures.arrivals c.requires.from c.requires.start c.in_ok-arrive.ensures.arrivals put)
