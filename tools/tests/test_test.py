@@ -53,6 +53,11 @@ class Runs(unittest.TestCase):
         self.assertEqual((status, told.splitlines()[-1]), (1, "1 passed, 2 failed, 0 skipped"))
         self.assertIn("it takes more than 0.3 seconds of the clock", told)
 
+    def test_help(self) -> None:
+        with redirect_stdout(io.StringIO()) as told:
+            self.assertEqual(runner().main(["--help"]), 0)
+        self.assertIn("tools/test [--all] [MODULE ..]", told.getvalue())
+
     def test_what_is_skipped(self) -> None:
         def skips(test: unittest.TestCase) -> None:
             test.skipTest("it is not there")
