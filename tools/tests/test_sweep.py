@@ -5,6 +5,7 @@ import json
 import random
 import unittest
 from pathlib import Path
+from unittest import mock
 
 import commands
 from support import BUILT, EXAMPLES, FolderTest, needs_splits
@@ -13,7 +14,7 @@ from ltm_tools.case import Case, Demand, Limit, Link, Setup, Split
 from ltm_tools.errors import Fault
 from ltm_tools.formats import MOST_DEMAND_ROWS, MOST_LINE_BYTES
 from ltm_tools.loading.session import Refused, Session, line_of
-from ltm_tools.sweep.scenarios import Runner, Scenario, batches, read_scenarios, scenario_of
+from ltm_tools.sweep.scenarios import Runner, Scenario, are_many, batches, read_scenarios, scenario_of
 from ltm_tools.sweep.taking_back import Taking
 
 
@@ -174,6 +175,20 @@ class Here(FolderTest):
             self.assertEqual(rows[0][-2:], [f"in:{case.links[0].name}", f"out:{case.links[0].name}"])
             for row, scenario in zip(rows[1:], read_scenarios(path), strict=True):
                 self.assertEqual(row, self.alone(EXAMPLES / name, case.links[0].name, scenario))
+
+    def test_all_links_by_one_line(self) -> None:
+        """A line that tells of all links has the numbers of a line for each, where the horizon is another too."""
+        for name in ("closures", "merge"):
+            case = Case.read(EXAMPLES / name)
+            path, found = random_scenarios(self.folder / "scenarios.jsonl", 40, case, 3), []
+            for many in (False, True):
+                with mock.patch("ltm_tools.sweep.scenarios.are_many", return_value=many):
+                    found.append(self.sweep(str(EXAMPLES / name), str(path), "--sessions", "1",
+                                            *(f"--links={link.name}" for link in case.links)))
+            self.assertEqual(*found)
+            self.assertGreater(sum(row[2] == "ok" for row in found[0]), 10)
+        self.assertEqual([are_many(*counts) for counts in ((10, 10), (11, 109), (11, 110), (2000, 2000))],
+                         [False, True, False, True])
 
     def alone(self, folder: Path, link: str, scenario: Scenario) -> list[str]:
         front = [str(scenario.number), scenario.name]

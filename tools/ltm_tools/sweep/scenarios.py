@@ -25,6 +25,7 @@ TOTALS = ("generated", "arrived", "on_links", "waiting", "not_there")
 TIMES = ("spent", "queued", "waited")
 FAILED = "failed: "  # begins the status of a scenario whose session ended, or takes no more lines
 MOST_BATCH_BYTES = MOST_LINE_BYTES - len(line_of({"do": "edit", "edits": []}))  # of the edits of a line
+FEW = 10  # links, or one in so many, are few
 TRIES = 2  # sessions that are asked about a scenario at which they end
 Row = list[str]
 
@@ -94,7 +95,10 @@ class Runner:
     def __init__(self, folder: str | os.PathLike[str], program: str | os.PathLike[str] | None,
                  links: Sequence[str] = (), delay: bool = False) -> None:
         self.folder, self.program, self.links, self.delay = folder, program, list(links), delay
-        self.taking = Taking(Case.read(folder))
+        case = Case.read(folder)
+        self.taking, self.slots = Taking(case), case.setup.slots
+        self.asks_all = are_many(len(links), len(case.links))
+        self.lines_of_links = 1 if self.asks_all else len(links)
         self.session: Session | None = None
         self.made: list[Edit] = []
         self.asked = self.opened = 0
@@ -103,7 +107,7 @@ class Runner:
     def run(self, scenario: Scenario) -> Row:
         """The row of results of a scenario. Where that takes more lines than a session, or its session ends, the row
         says so."""
-        lines = 1 + len(scenario.batches) + 2 + self.delay + len(self.links)
+        lines = 1 + len(scenario.batches) + 2 + self.delay + self.lines_of_links
         if lines > self.MOST_ASKED:
             return self.without(scenario,
                                 f"{FAILED}it takes {count_text(lines)} lines of a session, which takes"
@@ -132,10 +136,17 @@ class Runner:
         told = [vehicles_text(units) for units in (*totals[1:], totals.on_links + totals.waiting)]
         if self.delay:
             told += [seconds_text(time) for time in times(session)]
-        for link in self.links:
-            told += [vehicles_text(units) for units in session.link(link)[1:]]
-        self.asked += 2 + self.delay + len(self.links)
+        told += [vehicles_text(units) for units in self.passed(session)]
+        self.asked += 2 + self.delay + self.lines_of_links
         return [str(scenario.number), scenario.name, "ok", *told]
+
+    def passed(self, session: Session) -> list[int]:
+        """What has entered and left each of the links by the end of the horizon that is shown."""
+        if not self.asks_all:
+            return [units for link in self.links for units in session.link(link)[1:]]
+        end = next((int(str(edit["slots"])) for edit in reversed(self.made) if edit["kind"] == "horizon"), self.slots)
+        state = session.state(end)
+        return [units for link in self.links for units in (state.entered[link], state.left[link])]
 
     def without(self, scenario: Scenario, status: str) -> Row:
         """A row without numbers."""
@@ -180,6 +191,11 @@ class Runner:
         session, self.session = self.session, None
         if session is not None:
             session.process.kill()
+
+
+def are_many(count: int, every: int) -> bool:
+    """Whether a line that tells of all links takes less time than one for each of so many."""
+    return count > FEW and count * FEW > every
 
 
 def times(session: Session) -> tuple[int, int, int]:
