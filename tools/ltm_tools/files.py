@@ -41,10 +41,20 @@ def read_bytes(path: str | os.PathLike[str]) -> bytes:
         raise Fault(f"{path}: {error.strerror or error}") from None
 
 
+def is_utf16(data: bytes) -> bool:
+    """Whether bytes begin with the mark of UTF-16."""
+    return data.startswith((codecs.BOM_UTF16_LE, codecs.BOM_UTF16_BE))
+
+
+def utf16_advice(path: str | os.PathLike[str]) -> str:
+    """What to do with a file in UTF-16."""
+    return f"this is UTF-16 and not UTF-8: iconv -f utf-16 -t utf-8 {path} >NEW turns it into UTF-8"
+
+
 def decoded(data: bytes, path: str | os.PathLike[str]) -> str:
     """The text of bytes in UTF-8, with or without its mark; a Fault with advice for any other encoding."""
-    if data.startswith((codecs.BOM_UTF16_LE, codecs.BOM_UTF16_BE)):
-        raise Fault(f"{path}: this is UTF-16 and not UTF-8: iconv -f utf-16 -t utf-8 {path} >NEW turns it into UTF-8")
+    if is_utf16(data):
+        raise Fault(f"{path}: {utf16_advice(path)}")
     zero = data.find(b"\0")
     if zero >= 0:
         raise Fault(f"{path}: line {data.count(NEW_LINE, 0, zero) + 1} has a byte 0, so that this is no text")

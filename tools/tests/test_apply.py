@@ -340,6 +340,11 @@ class Command(FolderTest):
         self.assertIn("line 1 is refused", done.stderr)
         self.assertEqual((self.folder / "made" / "signals.csv").read_text(),
                          "link,from_slot,to_slot,vehicles\na,0,1,0\n")
+        script.write_bytes(script.read_text().encode("utf-16"))  # of which the program reads no line
+        done = self.run_it(str(EXAMPLES / "spillback"), str(script), str(self.folder / "none"))
+        self.assertEqual((done.returncode, done.stdout, done.stderr.count("\n")), (1, "", 1))
+        self.assertIn("this is UTF-16 and not UTF-8: iconv", done.stderr)
+        self.assertFalse((self.folder / "none").exists())
 
 
 if __name__ == "__main__":

@@ -272,6 +272,7 @@ class Scripts(FolderTest):
     def test_why_a_line_is_no_command(self) -> None:
         for line, cause, part in (
             ('{"do": "totals"', "NotJson", "it is no JSON"),
+            ('\ufeff{"do": "totals"}', "NotJson", "a mark of its encoding: save the file as UTF-8 without one"),
             ('{"do": "totals", "a": NaN}', "NotJson", "NaN is no number of JSON"),
             ('{"do": "totals", "a": "\\ud800"}', "NotJson", "half of a pair"),
             ('{"do": "\\ud800", "do": "totals"}', "NotJson", "half of a pair"),
@@ -358,6 +359,9 @@ class Scripts(FolderTest):
             "line 3 of the script: passed over: to of edit 1",
             'line 4 of the script: it is no JSON: expecting \':\' delimiter, at character 6: "}"',
         ])
+        script.write_bytes(script.read_bytes().decode().encode("utf-16"))
+        self.assertEqual(explain(str(self.case()), 0, "", ["session", "0"], str(script))[0],
+                         "the script is UTF-16 and not UTF-8")
 
     def test_files_of_edits(self) -> None:
         case = self.case()

@@ -9,7 +9,7 @@ from collections.abc import Sequence
 from pathlib import Path
 
 from ..errors import Fault
-from ..files import read_bytes, records, shown
+from ..files import is_utf16, read_bytes, records, shown
 from ..formats import (HEADERS, MOST_CURVES_BYTES, MOST_EDITOR_LINES, MOST_FILE_BYTES, MOST_LINES, MOST_LINE_BYTES,
                        clock_text, count_text)
 from ..program import routes_write
@@ -259,8 +259,10 @@ def edit_place(said: Line) -> str:
 def of_script(path: str) -> Told:
     """The lines of a script that are no commands, and the members that are passed over."""
     told: Told = []
-    more = 0
-    for number, data in enumerate(script_lines(read_bytes(path))[:MOST_LINES], 1):
+    more, script = 0, read_bytes(path)
+    if is_utf16(script):
+        return ["the script is UTF-16 and not UTF-8", "    iconv -f utf-16 -t utf-8 SCRIPT >NEW turns it into UTF-8"]
+    for number, data in enumerate(script_lines(script)[:MOST_LINES], 1):
         if len(data) > MOST_LINE_BYTES:
             break
         said = read_line(data)

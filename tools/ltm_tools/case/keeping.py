@@ -13,7 +13,7 @@ from dataclasses import replace
 from typing import Generic, NamedTuple, TypeVar
 
 from ..errors import Fault
-from ..files import read_bytes, write_bytes
+from ..files import is_utf16, read_bytes, utf16_advice, write_bytes
 from ..formats import MOST_SLOT_UNITS, units_of
 from ..program import output
 from ..replacing import together
@@ -230,6 +230,8 @@ def accepted(folder: str | os.PathLike[str], lines: Sequence[bytes],
 
 
 def read_script(path: str | os.PathLike[str]) -> list[bytes]:
-    """The lines of a script."""
+    """The lines of a script; a Fault where no line of it can be read."""
     data = read_bytes(path)
+    if is_utf16(data):
+        raise Fault(f"{path}: {utf16_advice(path)}")
     return data.removesuffix(b"\n").split(b"\n") if data else []

@@ -53,6 +53,8 @@ def parsed(data: bytes) -> object:
         raise ValueError(f"byte {error.start + 1} is 0x{data[error.start]:02x}, which is no UTF-8") from None
     if not text.strip(" \t\r\n"):
         raise ValueError("the line is empty")
+    if text.startswith("\ufeff"):
+        raise ValueError("it begins with a mark of its encoding: save the file as UTF-8 without one (BOM)")
     try:
         value: object = json.loads(text, parse_constant=_no_constant, parse_int=_whole, parse_float=_finite,
                                    object_pairs_hook=_object)
