@@ -70,9 +70,10 @@ def turns_that_yield(folder: str | os.PathLike[str], case: Case) -> list[Turn]:
 def volumes_of(net: Net, left: Whole, slice_ms: int) -> Volumes:
     """What leaves links in each slice, by what has left them by each boundary."""
     made = Volumes(slice_ms)
-    for begin in range(0, net.slots * net.step, slice_ms):
+    for number, begin in enumerate(range(0, net.slots * net.step, slice_ms)):
         first, end = (min(-(-moment // net.step), net.slots) for moment in (begin, begin + slice_ms))
-        for name, units in zip(net.names, (left[end] - left[first]).tolist()):
-            if units:
-                made.add(name, begin, units)
+        units = left[end] - left[first]
+        for place in units.nonzero()[0].tolist():
+            made.counts.setdefault(net.names[place], {})[number] = int(units[place])
+            made.slices = number + 1
     return made
