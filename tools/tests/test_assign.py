@@ -158,7 +158,7 @@ class Command(FolderTest):
         """It tells each iteration, the best is written, and another run, and one in many sessions, write the same."""
         self.case(**TWO, nodes="name,x,y\no,0,0\nd,100,0\n")
         status, out, err = self.assign("--iterations", "3")
-        self.assertEqual((status, err, len(out.splitlines())), (0, "", 8), out + err)
+        self.assertEqual((status, err, len(out.splitlines())), (0, "", 9), out + err)
         self.assertEqual(out.splitlines()[0], "2 links, 1 destination, 7 periods of 1 minutes")
         gap = subprocess.run([BUILT, "gap"], cwd=self.folder / "made", capture_output=True, text=True, check=True)
         self.assertEqual(out.splitlines()[-1], gap.stdout.splitlines()[0])
@@ -173,6 +173,12 @@ class Command(FolderTest):
         with patch.object(Engine, "MOST_ASKED", 9):
             self.assertEqual(self.assign("--iterations", "3")[0], 0)
         self.assertEqual(self.texts(), first)
+
+    def test_swing_is_told(self) -> None:
+        """Where hours swing between 16,200 and 23,400 s, 44.44 % more, it says so."""
+        self.case(**TWO)
+        told = "the hours of the last 5 iterations differ by 44.44 %: it swings; try a smaller --step"
+        self.assertIn(told, self.assign("--iterations", "5", "--step", "20")[1])
 
     def test_goes_on_from(self) -> None:
         """From the shares that were found the first iteration is the best of before."""

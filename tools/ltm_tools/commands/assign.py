@@ -3,7 +3,7 @@ from __future__ import annotations
 
 import argparse
 import time
-from collections.abc import Iterator
+from collections.abc import Iterator, Sequence
 from typing import TYPE_CHECKING
 
 from ..case import Case
@@ -32,6 +32,7 @@ seconds. The best iteration is kept, also where it is stopped by Ctrl-C. ASSIGNE
 iterations in `iterations.csv`.
 """
 NEEDS = ("numpy",)
+LAST, STEADY = 5, 3.0  # the last iterations, and by how many per cent hours may differ in them without a swing
 HEADER = f"{'':>3} {'hours':>12} {'regret':>10} {'not there':>12} {'step':>8} {'seconds':>8}"
 
 
@@ -77,7 +78,7 @@ def run(args: argparse.Namespace) -> int:
         print("stopped: the best so far is kept", flush=True)
     with together():
         write_result(args.case, args.output, rounds, done)
-    print(*ending(rounds, args), sep="\n")
+    print(*ending(rounds, done, args), sep="\n")
     return 0
 
 
@@ -98,12 +99,14 @@ def told(rounds: Rounds, program: str | None, done: list[Iteration]) -> Iterator
         began = now
 
 
-def ending(rounds: Rounds, args: argparse.Namespace) -> Iterator[str]:
-    """What is told of the result: the best iteration, whether it is as near as was wanted, and its gap."""
+def ending(rounds: Rounds, done: Sequence[Iteration], args: argparse.Namespace) -> Iterator[str]:
+    """What is told of the result: the best iteration, whether hours swing, whether it is as near as was wanted, and its
+    gap."""
     best = rounds.best_one
     assert best is not None
     yield (f"{args.output}: iteration {best.number}, {HOURS.show(best.look.spent)} vehicle hours, turn regret"
            f" {best.look.per_cent:.2f} %")
+    yield from steady([one for one in done if one.round == best.round][-LAST:])
     if args.until and best.look.per_cent > args.until:
         yield (f"it has not come to {args.until:g} %: more --iterations, a smaller --step or a longer --period may,"
                f" with --from {args.output}")
@@ -112,3 +115,13 @@ def ending(rounds: Rounds, args: argparse.Namespace) -> Iterator[str]:
 
         yield late_line(args.output, args.program)
     yield output(args.output, "gap", program=args.program).decode("ascii", "replace").splitlines()[0]
+
+
+def steady(last: Sequence[Iteration]) -> Iterator[str]:
+    """By how much hours differ in the last iterations, where these are several, and what to do where they swing."""
+    if len(last) > 1:
+        spent = [one.look.spent for one in last]
+        swing = 100 * (max(spent) / min(spent) - 1)
+        yield (f"the hours of the last {len(last)} iterations differ by {swing:.2f} %"
+               + (": it swings; try a smaller --step, and turns with all their lanes (--lanes full)"
+                  if swing > STEADY else ""))
