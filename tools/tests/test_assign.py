@@ -111,6 +111,18 @@ class ByHand(Hand):
         self.assertLess(made.best_one.look.per_cent, 1)
 
 
+    def test_gridlock_is_taken_back(self) -> None:
+        """Where a quarter of a vehicle a second gets through `fast` and all take it they are 40 s on the way and 270 in
+        the mean in its queue, three times what `slow` costs. So the next step is a smaller one from those by `slow`,
+        till one is small enough for no queue."""
+        case = {**TWO, "setup": TWO["setup"].replace("400", "800"), "signals": SIGNALS + "fast,0,800,0.25\n"}
+        made = self.found(case, period_ms=60_000, iterations=3, size=20.0)
+        self.assertEqual(self.seconds[:3], [18_000, 180 * 310, 180 * 310])
+        self.assertTrue(180 * (0.25 * 40 + 0.75 * 100) <= self.seconds[3] < 18_000, self.seconds)
+        assert made.best_one is not None
+        self.assertEqual(made.best_one.number, 3)
+
+
 @needs_numpy
 @needs_splits
 class LinkTimes(FolderTest):

@@ -18,7 +18,8 @@ from .net import Net, Real, Whole
 from .shares import check_ways, of_splits, periods_of, rounded, rows_of, with_last
 from .steps import averaged, stepped
 
-SMALLER, LARGER = 0.7, 1.03  # what a step's size is multiplied by
+SMALLER, LARGER, BACK = 0.7, 1.03, 0.3  # what a step's size is multiplied by
+LOST = 1.5  # so many times the hours of the best iteration, with more regret, and an iteration is taken back
 Step = Callable[[Net, Labels, Whole, float], Real]
 
 
@@ -126,6 +127,7 @@ class Assignment:
         self.best = self.weights
         self.best_one: Iteration | None = None
         self.best_left: Whole | None = None  # what has left each link by each boundary
+        self.best_labels: Labels | None = None
 
     def run(self, program: str | os.PathLike[str] | None = None) -> Iterator[Iteration]:
         """Each iteration as it is done, the first of the shares that it begins with; the last is that behind which no
@@ -135,15 +137,24 @@ class Assignment:
         with Engine(self.net, rows_of(self.net, self.weights, self.period), program) as engine:
             for number in range(self.options.iterations + 1):
                 look, labels, left = looker.look(engine, self.weights, self.period)
+                is_lost = self._is_lost(look)
+                sizes.size *= BACK if is_lost else 1
                 made = Iteration(number, look, sizes.after(look.regret))
                 if self.best_one is None or look.regret < self.best_one.look.regret:
-                    self.best, self.best_one, self.best_left = self.weights, made, left
+                    self.best, self.best_one, self.best_left, self.best_labels = self.weights, made, left, labels
                 yield made
                 if look.per_cent <= self.options.until or number == self.options.iterations:
                     return
+                if is_lost and self.best_labels is not None:
+                    self.weights, labels, self.ahead = self.best, self.best_labels, None
                 self.weights = self._next(labels, made.size)
-                if not engine.tell(rows_of(self.net, self.weights, self.period)):
+                if not engine.tell(rows_of(self.net, self.weights, self.period)) and not is_lost:
                     return
+
+    def _is_lost(self, look: Look) -> bool:
+        """Whether a step has led to a gridlock, from which small steps would lead no way back."""
+        best = None if self.best_one is None else self.best_one.look
+        return best is not None and look.spent > LOST * best.spent and look.regret > best.regret
 
     def _next(self, labels: Labels, size: float) -> Whole:
         """The weights behind an iteration. Which links lead on is told by this and earlier loadings, half by the last,
