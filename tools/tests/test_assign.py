@@ -189,7 +189,7 @@ class Command(FolderTest):
     def test_swing_is_told(self) -> None:
         """Where hours swing between 16,200 and 23,400 s, 44.44 % more, it says so."""
         self.case(**TWO)
-        told = "the hours of the last 5 iterations differ by 44.44 %: it swings; try a smaller --step"
+        told = "in the last 5 iterations hours rose by 44.44 % at most: it swings; try a smaller --step"
         self.assertIn(told, self.assign("--iterations", "5", "--step", "20")[1])
 
     def test_goes_on_from(self) -> None:

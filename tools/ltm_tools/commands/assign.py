@@ -32,7 +32,7 @@ seconds. The best iteration is kept, also where it is stopped by Ctrl-C. ASSIGNE
 iterations in `iterations.csv`.
 """
 NEEDS = ("numpy",)
-LAST, STEADY = 5, 3.0  # the last iterations, and by how many per cent hours may differ in them without a swing
+LAST, STEADY = 5, 3.0  # the last iterations, and by how many per cent hours may rise in them without a swing
 HEADER = f"{'':>3} {'hours':>12} {'regret':>10} {'not there':>12} {'step':>8} {'seconds':>8}"
 
 
@@ -118,10 +118,10 @@ def ending(rounds: Rounds, done: Sequence[Iteration], args: argparse.Namespace) 
 
 
 def steady(last: Sequence[Iteration]) -> Iterator[str]:
-    """By how much hours differ in the last iterations, where these are several, and what to do where they swing."""
+    """By how much hours rose in the last iterations, where these are several, and what to do where they swing."""
     if len(last) > 1:
         spent = [one.look.spent for one in last]
-        swing = 100 * (max(spent) / min(spent) - 1)
-        yield (f"the hours of the last {len(last)} iterations differ by {swing:.2f} %"
+        rise = max(100 * (after / min(spent[: place + 1]) - 1) for place, after in enumerate(spent))
+        yield (f"in the last {len(last)} iterations hours rose by {rise:.2f} % at most"
                + (": it swings; try a smaller --step, and turns with all their lanes (--lanes full)"
-                  if swing > STEADY else ""))
+                  if rise > STEADY else ""))
