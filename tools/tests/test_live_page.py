@@ -28,13 +28,15 @@ HOSTILE = "<img src=x onerror=document.title=1>"
 @needs_live
 @needs_splits
 class Page(BrowserTest):
-    def serve(self, name: str = "closures", case: Case | None = None) -> str:
-        """Serves a case, else one with a signal, under a name, and opens its page: the address."""
+    def serve(self, name: str = "closures", case: Case | None = None, beside: dict[str, str] | None = None) -> str:
+        """Serves a case with files beside it, else one with a signal, under a name, and opens its page: the address."""
         self.where = self.folder / name
         if case is None:
             case = Case.read(EXAMPLES / "closures")
             case.setup.signals, case.signals = True, [Limit("south_east", 20, 50, 1000)]
         case.write(self.where)
+        for file, text in (beside or {}).items():
+            (self.where / file).write_text(text)
         words = ["live", str(self.where), "--program", str(BUILT), "--start", "7:00", "--no-open", "--script",
                  str(self.folder / "script.jsonl")]
         self.server = subprocess.Popen([sys.executable, str(CLONE / "tools" / "ltm-tools"), *words],
@@ -225,6 +227,25 @@ class Page(BrowserTest):
         self.wait(0)
         self.assertEqual((self.text("#sums dd"), self.text("#sums .change"), self.browser.console()),
                          (f"{OPEN:.2f}", "", []))
+
+    def test_a_road_with_its_turns(self) -> None:
+        """A road that was cut before a crossing is told with its turns: its delay is theirs together, and so are its
+        curves; without the tick each is told by itself."""
+        self.serve("spillback", Case.read(EXAMPLES / "spillback"), {
+            "source_links.csv": "source,from,to,link\nMain,1,4,a\nMain,1,4,b\n",
+            "source_nodes.csv": "source,node\n1,n1\n4,n3\n"})
+        roads = "#roads td:nth-child(1)"
+        self.assertEqual(self.texts(roads), ["n1 (origin)", "Main"])
+        self.browser.click(*self.browser.run("return live.middle('a')"))
+        self.browser.until("return live.state.curves && document.querySelector('#curves .hint')")
+        self.assertEqual(self.text("#curves .hint"), "with its turns b")
+        # of 5.0 that have entered a 2.4 have left b by the last moment, 16 s, and 2.6 are between
+        self.assertEqual(self.browser.run("const {up, down, standing, queue} = live.state.curves;"
+                                          "return [up, down, standing, queue].map(each => each.at(-1))"),
+                         [5000, 2400, 2600, 1800])
+        self.press("#joined input")
+        self.browser.until("return !document.querySelector('#curves .hint') && live.state.curves.down.at(-1) === 2800")
+        self.assertEqual((self.texts(roads), self.browser.console()), (["n1 (origin)", "a"], []))
 
     def test_hostile_names_and_the_token(self) -> None:
         """A folder's name that is markup is a text; no address has the token, and a script in the page is not run."""

@@ -34,7 +34,7 @@ class Browser(Protocol):
     name: str
     boundary: int
     wanted: bool  # whether it is to be shown its boundary
-    picked: tuple[str, str] | None  # what it has picked: a `link` or a `node`, and its name
+    picked: tuple[str, str] | None  # what it has picked: a `link`, a `node` or an `approach`, and its name
     shown: tuple[int, tuple[str, str] | None]  # the revision and the pick of the curves that it has
     pending: int
 
@@ -264,8 +264,12 @@ class Desk:
                 browser.send(await self.call(partial(self.curve, *browser.picked)))
 
     def curve(self, kind: str, name: str) -> Told:
-        """The curves of a link or an origin, now and in the base, and of a link its free-flow time in both, in ms."""
+        """The curves of a link or an origin, now and in the base, and of a link its free-flow time in both, in ms; of
+        an approach those of its links."""
         scenario = self.scenario
+        if kind == "approach":
+            parts: list[Told] = [self.curve("link", link) for link in scenario.approaches[name]]
+            return {"curve": name, "kind": kind, "parts": parts, "revision": scenario.revision}
         if kind == "node":
             now = scenario.departures(name)
             return {"curve": name, "kind": kind, "now": now, "base": scenario.base.departures.get(name, now),

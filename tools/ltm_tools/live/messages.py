@@ -76,8 +76,11 @@ def boundary_of(told: Members, slots: int) -> int | None:
 
 
 def picked_of(told: object, scenario: Scenario) -> tuple[str, str] | None:
-    """The link or node that `pick` tells, as `{"link": "a"}`: which of both, and its name; None where it is none."""
-    for kind, names in (("link", scenario.links), ("node", scenario.nodes)):
+    """The link, node or approach with its turns that `pick` tells, as `{"link": "a"}`: which of these, and its name;
+    None where it is none."""
+    known: dict[str, Mapping[str, object]] = {"link": scenario.links, "node": scenario.nodes,
+                                              "approach": scenario.approaches}
+    for kind, names in known.items():
         name = told.get(kind) if isinstance(told, dict) else None
         if isinstance(name, str) and name in names:
             return kind, name

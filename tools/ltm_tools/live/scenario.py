@@ -16,6 +16,7 @@ from ..errors import Fault
 from ..formats import MOST_LINES
 from ..loading.answers import AllDelays, Settled, Totals
 from ..loading.session import Refused, Session
+from ..network.source import approaches_of
 from ..sweep.taking_back import Taking
 from .asks import Members, ask_of
 from .entries import Batch, Entry, batches_of, in_batches
@@ -41,6 +42,7 @@ class Scenario:
         self.slots, self.step = self.case.setup.slots, self.case.setup.step_ms
         self.links = {link.name: place for place, link in enumerate(self.case.links)}
         self.nodes = {node: place for place, node in enumerate(self.case.nodes)}
+        self.approaches = approaches_of(self.folder, self.case.links)
         self.origins = list(dict.fromkeys(row.origin for row in self.case.standing_demand()))
         self.entries: list[Entry] = []
         self.made: list[Batch] = []  # in the session, in order

@@ -18,7 +18,7 @@ import tornado.websocket
 
 from ..errors import Fault
 from ..files import read_text, readable
-from ..show.network import placed, told_network
+from ..show.network import numbered, placed, told_network
 from ..show.page import SHARED_SCRIPTS, WEB as SHARED, find_d3
 from .desk import Desk
 from .guard import ADDRESS, MOST_BROWSERS, MOST_MESSAGE, MOST_PENDING, SECONDS_FOR_TOKEN, Guard
@@ -51,7 +51,7 @@ def hello(scenario: Scenario) -> Told:
             "kmh": [link.free_kmh for link in case.links],
             "capacity": [link.capacity(3_600_000) for link in case.links],
             "origins": [case.nodes.index(node) for node in scenario.origins], "choices": choices_of(case),
-            "hears": not lacking()}
+            "approaches": numbered(case, scenario.approaches), "hears": not lacking()}
 
 
 @dataclass(slots=True)

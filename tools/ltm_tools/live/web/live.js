@@ -6,7 +6,7 @@
   const token = location.hash.slice(1) || sessionStorage.getItem("token") || "";
   sessionStorage.setItem("token", token);
   history.replaceState(null, "", location.pathname);
-  const state = { net: null, frame: null, costs: null, list: [], you: "", revision: 0, picked: {}, found: "", shown: "queue", ready: false, seeking: null, sought: 0, settled: null };
+  const state = { net: null, frame: null, costs: null, list: [], you: "", revision: 0, picked: {}, found: "", shown: "queue", ready: false, seeking: null, sought: 0, settled: null, joined: true, curves: null };
   const times = [];  // for tests: of each change when it was asked for, drawn, painted and counted
   let socket = null, asked = null, flying = false, unit = ltmNumbers.unitOf(0);
 
@@ -147,6 +147,9 @@
     state.frame = null;
     Object.assign(net, ltmNames.of(net));
     net.isOrigin = new Set(net.origins);
+    net.groups = new Map(Object.entries(net.approaches));
+    net.groupFrom = new Map([...net.groups].map(([name, [link]]) => [link, name]));
+    $("joined").hidden = !net.groups.size;
     document.title = `${net.name} live`;
     $("title").textContent = net.name;
     map.measure();
@@ -177,10 +180,14 @@
   const panel = ltmEdits.panel(d3.select("#edit"), { clockOf: clock, slotOf, step: () => state.net.step, slots: () => state.net.slots, here: () => player.here(), say, hears: () => state.net.hears, sought: () => state.sought,
     edit: what => ask({ edit: what }), pick: what => pick({ node: state.net.nodeOf.get(what.node) }, what.share) });
 
-  // Curves are asked for of a road, or of a node where some set out.
+  // The roads that are told as one: those that were cut before a crossing with their turns, by the name of the first.
+  const groups = () => state.joined ? state.net.groups : new Map();
+  const groupOf = link => state.joined ? state.net.groupFrom.get(link) : undefined;
+
+  // Curves are asked for of a road, with its turns where it is told with them, or of a node where some set out.
   function tellPick() {
-    const { net, picked } = state;
-    send({ pick: picked.link !== undefined ? { link: net.links[picked.link].name } : net.isOrigin.has(picked.node) ? { node: net.nodes[picked.node].name } : null });
+    const { net, picked } = state, group = groupOf(picked.link);
+    send({ pick: group !== undefined ? { approach: group } : picked.link !== undefined ? { link: net.links[picked.link].name } : net.isOrigin.has(picked.node) ? { node: net.nodes[picked.node].name } : null });
   }
 
   function pick(what, share) {
@@ -205,17 +212,17 @@
   }
 
   function drawCurves(curve) {
-    const box = d3.select("#curves").html(""), { net, picked } = state;
-    const isOf = curve.kind === "link" ? net.linkOf.get(curve.curve) === picked.link : net.nodeOf.get(curve.curve) === picked.node;
+    const box = d3.select("#curves").html(""), { net, picked } = state, road = curve.kind !== "node";
+    const isOf = { link: () => net.linkOf.get(curve.curve) === picked.link, node: () => net.nodeOf.get(curve.curve) === picked.node, approach: () => groupOf(picked.link) === curve.curve }[curve.kind]();
     $("curves").hidden = !isOf;
     if (!isOf) return;
-    const link = net.linkOf.get(curve.curve), road = curve.kind === "link", storage = road ? net.links[link].storage : null;
-    const on = ([up, down]) => up.map((count, k) => count - down[k]), queue = ([up, down], free) => ltmNumbers.queues(up, down, net.step, free);
-    const names = road ? ["entered", "left"] : ["produced", "departed"];
-    const counts = [["now", false], ["base", true]].flatMap(([of, thin]) => names.map((_, at) => line(curve[of][at], at ? "var(--left)" : "var(--entered)", thin)));
-    const below = [["now", false, 0], ["base", true, 1]].flatMap(([of, thin, at]) => road
-      ? [line(on(curve[of]), "var(--standing)", thin), line(queue(curve[of], curve.free[at]), "var(--queue)", thin)] : [line(on(curve[of]), "var(--queue)", thin)]);
+    const parts = curve.parts || [curve], shown = [["now", false, 0], ["base", true, 1]].map(([of, thin, at]) => ({ thin, ...(road ? summed(parts, of, at) : produced(curve[of])) }));
+    state.curves = shown[0];
+    const names = road ? ["entered", "left"] : ["produced", "departed"], storage = road ? d3.sum(parts, part => net.links[net.linkOf.get(part.curve)].storage) : null;
+    const counts = shown.flatMap(one => [line(one.up, "var(--entered)", one.thin), line(one.down, "var(--left)", one.thin)]);
+    const below = shown.flatMap(one => road ? [line(one.standing, "var(--standing)", one.thin), line(one.queue, "var(--queue)", one.thin)] : [line(one.queue, "var(--queue)", one.thin)]);
     const last = net.start + net.slots * net.step;
+    if (curve.parts) box.append("p").attr("class", "hint").text(`with its turns ${parts.slice(1).map(part => part.curve).join(", ")}`);
     ltmChart.draw(box, { lines: below, bound: storage, label: "vehicles", tall: TALL[1], first: net.start, last });
     ltmChart.draw(box.append("div").attr("class", "counts"), { lines: counts, bound: null, label: "vehicles since the start", tall: TALL[0], first: net.start, last });
     const key = road ? [["on the road", "var(--standing)"], ["queue", "var(--queue)"], ["storage", null]] : [["waiting", "var(--queue)"]];
@@ -224,6 +231,16 @@
     drawNow();
   }
 
+  // The curves of roads that are told as one: what enters those to which no other leads, what leaves those that lead to no other, and the sums of the rest.
+  function summed(parts, of, at) {
+    const links = parts.map(part => state.net.links[state.net.linkOf.get(part.curve)]), heads = new Set(links.map(({ head }) => head)), tails = new Set(links.map(({ tail }) => tail));
+    const sum = rows => parts[0][of][0].map((_, k) => d3.sum(rows, row => row[k]));
+    return { up: sum(parts.filter((_, index) => !heads.has(links[index].tail)).map(part => part[of][0])), down: sum(parts.filter((_, index) => !tails.has(links[index].head)).map(part => part[of][1])),
+      standing: sum(parts.map(part => on(part[of]))), queue: sum(parts.map(part => ltmNumbers.queues(...part[of], state.net.step, part.free[at]))) };
+  }
+
+  const on = ([up, down]) => up.map((count, k) => count - down[k]);
+  const produced = ([up, down]) => ({ up, down, queue: on([up, down]) });
   const line = (values, colour, thin) => ({ values, colour, thin, start: state.net.start, step: state.net.step });
   const drawNow = () => ltmChart.now(d3.select("#curves"), state.net.start + player.here() * state.net.step);
 
@@ -271,14 +288,14 @@
   }
 
   function pickName(name) {
-    const link = state.net.linkNamed(name), node = state.net.nodeOf.get(name), what = link !== undefined ? { link } : node !== undefined ? { node } : null;
+    const [link] = groups().get(name) || [state.net.linkNamed(name)], node = state.net.nodeOf.get(name), what = link !== undefined ? { link } : node !== undefined ? { node } : null;
     if (what === null) return say(`there is no road or node ${name}`, true);
     picked(what);
   }
 
   function drawRoads() {
     if (state.costs === null) return;
-    const words = state.found.toLowerCase(), rows = ltmTables.rowsOf(state.net, state.costs).filter(row => row.kind === "links" ? state.net.isCalled(row.at, words) : row.name.toLowerCase().includes(words));
+    const words = state.found.toLowerCase(), rows = ltmTables.rowsOf(state.net, state.costs, groups()).filter(row => row.name.toLowerCase().includes(words) || row.kind === "links" && row.all.some(link => state.net.isCalled(link, words)));
     $("unit").textContent = `in ${unit.name}; ${rows.length} with any` + (rows.length > table.most ? `, the first ${table.most}` : "");
     table.show(rows);
   }
@@ -307,6 +324,7 @@
     if (event.key === "z" && (event.ctrlKey || event.metaKey) && !event.shiftKey && !writes) { event.preventDefault(); undoLast(); }
   });
   $("shown").addEventListener("change", () => { state.shown = $("shown").value; legend(); map.draw(); });
+  document.querySelector("#joined input").addEventListener("change", event => { state.joined = event.target.checked; drawRoads(); tellPick(); });
   $("search").addEventListener("input", () => { state.found = $("search").value.trim(); drawRoads(); });
   $("search").addEventListener("keydown", event => { if (event.key === "Enter" && state.found) pickName(state.found); });
 

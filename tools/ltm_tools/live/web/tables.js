@@ -26,13 +26,16 @@ const ltmTables = (() => {
     return unit;
   }
 
-  // Each road and each origin with any delay, now or in the base.
-  function rowsOf(net, costs) {
-    const row = (kind, names) => names.map((name, at) => {
-      const [base, now] = [costs.base[kind][at], costs.now[kind][at]];
-      return { kind, at, name, base: base[0], now: now[0], change: now[0] - base[0], most: now[1], when: now[2] };
-    }).filter(one => one.base || one.now);
-    return [...row("links", net.links.map(link => link.name)), ...row("nodes", net.nodes.map(node => node.name))].sort((a, b) => b.now - a.now);
+  // Each road and each origin with any delay, now or in the base. Of roads that are told as one delays are summed, and the worst queue is that of one.
+  function rowsOf(net, costs, groups) {
+    const row = (kind, name, all) => {
+      const [base, now] = ["base", "now"].map(of => d3.sum(all, at => costs[of][kind][at][0]));
+      const [, most, when] = all.map(at => costs.now[kind][at]).reduce((one, other) => other[1] > one[1] ? other : one);
+      return { kind, at: all[0], all, name, base, now, change: now - base, most, when };
+    };
+    const grouped = new Set([...groups.values()].flat());
+    return [...[...groups].map(([name, all]) => row("links", name, all)), ...net.links.map(({ name }, at) => [name, at]).filter(([, at]) => !grouped.has(at)).map(([name, at]) => row("links", name, [at])),
+      ...net.nodes.map(({ name }, at) => row("nodes", name, [at]))].filter(one => one.base || one.now).sort((a, b) => b.now - a.now);
   }
 
   function roads(table, { clockOf, unit, pick, isChosen }) {
