@@ -8,8 +8,8 @@ const ltmEdits = (() => {
   // Of each kind what it is called, its fields (name, value, what stands behind it), whether it has a span, and what its button says.
   const KINDS = {
     close: { title: "Close", fields: () => [], button: "Close the road", heard: true },
-    let_in: { title: "Let in", fields: road => [["per_hour", road.capacity / 2, "vehicles/h"]], button: "Let in at most" },
-    let_out: { title: "Let out", fields: road => [["per_hour", road.capacity / 2, "vehicles/h"]], button: "Let out at most" },
+    let_in: { title: "Let in", fields: road => [["per_hour", road.capacity / 2, "vehicles/h"]], button: "Set the limit" },
+    let_out: { title: "Let out", fields: road => [["per_hour", road.capacity / 2, "vehicles/h"]], button: "Set the limit" },
     signal: { title: "Signal", fields: () => [["green", 30, "s green of"], ["cycle", 90, "s"]], button: "Set the signal" },
     speed: { title: "Speed", fields: road => [["kmh", road.kmh * 0.7, "km/h, the whole time"]], button: "Set the speed", whole: true },
     demand: { title: "Demand", fields: () => [["percent", 150, "% of the case's"]], button: "Set the demand" },
