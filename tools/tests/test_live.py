@@ -94,14 +94,14 @@ class Shown(LiveTest):
                              " ".join(word for word in line.split()[4:] if word.isdigit()))
 
     async def test_two_browsers(self) -> None:
-        """Changes by chance from two browsers at once, with a session that is opened anew as its lines are used: both
-        see one list and one loading, that of the kept case."""
+        """A thousand changes by chance from two browsers at once, with a session that is opened anew as its lines are
+        used: both see one list and one loading, that of the kept case."""
         self.most_lines = 260
         await self.start()
         one, other = await self.client(), await self.client()
         pick = random.Random(5)
-        for _ in range(3):
-            for _ in range(20):
+        for _ in range(20):
+            for _ in range(50):
                 who, entries = pick.choice((one, other)), one.list
                 kind = pick.randrange(3)
                 if kind and entries:
