@@ -30,7 +30,7 @@ pub(crate) struct Outfit {
     pub(crate) gear: Gear,
 }
 
-/// Answers all lines of a script beside workers.
+/// Answers all lines of a script beside workers, and then stops the core, so that they end.
 fn edit<R: Wait, S: Source, W: Sink>(
     place: &Place<R>,
     outfit: Outfit,
@@ -68,31 +68,6 @@ fn edit<R: Wait, S: Source, W: Sink>(
         editor,
         settler: _,
     } = beside;
-    (editor, end)
-}
-
-/// Answers all lines of a script beside workers, and then stops the core, so that they end.
-fn edit_and_stop<R: Wait, S: Source, W: Sink>(
-    place: &Place<R>,
-    outfit: Outfit,
-    source: &mut S,
-    sink: &mut W,
-) -> (EditorPass<Core>, SessionEnd)
-    requires turn { editor_turn outfit.editor ≡ turn_id place.now.turn.now }
-    requires unread { IsUnread outfit.gear.script }
-    ensures turn { (editor_turn result.0 ≡ turn_id place.now.turn.now)
-        × (editor_workers result.0 ≡ editor_workers outfit.editor) }
-    ensures session { SessionBeside (S.left source.old) (S.left source.new) result.1
-        (W.written sink.old) (W.written sink.new) (editor_list outfit.editor)
-        (editor_seen outfit.editor) (editor_list result.0) (editor_seen result.0) }
-    ensures read_fault { result.1 ≡ SessionEnd.ReadFault
-        → Rose (S.faults source.old) (S.faults source.new) }
-    ensures write_fault { result.1 ≡ SessionEnd.WriteFault
-        → Rose (W.faults sink.old) (W.faults sink.new) }
-    ensures read { ReadsAll (S.left source.old) result.1 (S.left source.new) }
-    ensures later { W.faults sink.old ≤ W.faults sink.new }
-{
-    let (editor, end) = edit(place, outfit, source, sink);
     let editor = stop_beside(place.rt, place.turn, place.hints, editor);
     (editor, end)
 }
@@ -123,11 +98,11 @@ pub(crate) fn crew<R: Threads + Wait + Sync, S: Source, W: Sink, G: Gate>(
     ensures later { W.faults sink.old ≤ W.faults sink.new }
 {
     if workers == 0 {
-        return edit_and_stop(place, outfit, source, sink);
+        return edit(place, outfit, source, sink);
     }
     let Outfit { editor, mut gear } = outfit;
     let Some(idle) = gear.scratches.pop() else {
-        return edit_and_stop(place, Outfit { editor, gear }, source, sink);
+        return edit(place, Outfit { editor, gear }, source, sink);
     };
     let mut editor = editor;
     let (rt, turn, hints) = (place.rt, place.turn, place.hints);
