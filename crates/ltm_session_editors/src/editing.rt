@@ -7,7 +7,7 @@ ghost use Rattle.ltm_editors.specs.Offices.{opening_of};
 ghost use Rattle.ltm_session_editors.specs.Histories.{batches_by, script_by};
 ghost use Rattle.ltm_session_editors.specs.Editing.{IsEditingText};
 
-use crate::crew::crew;
+use crate::editors::edit_all;
 use crate::report::{let_go, report};
 use crate::script::Script;
 use ltm_core::Core;
@@ -35,7 +35,7 @@ fn edit_office<R: Threads + Wait + Sync>(
     let editors = scripts.len() as u32;
     match Desk::create(alloc, office) {
         Ok((desk, first)) => {
-            let (first, done) = crew(rt, &desk, first, editors, scripts);
+            let (first, done) = edit_all(rt, &desk, first, editors, scripts);
             return (desk.close(first), done);
         }
         Err((office, fault)) => return (office, Err(fault)),

@@ -12,10 +12,10 @@
 #![tactic(auto)]
 
 mod answer;
-mod crew;
 mod cutting;
 mod editing;
 mod editor;
+mod editors;
 mod edits;
 mod fault;
 mod fetching;

@@ -11,7 +11,7 @@ use Rattle.ltm_editors.specs.Seats.{seat_place, seat_seen}
 use Rattle.ltm_session_editors.proofs.Calls.{all_split}
 use Rattle.ltm_session_editors.proofs.Crews.{taken_out, owns_next, crew_made}
 use Rattle.ltm_editors.proofs.Crosses.{office_sends}
-use Rattle.ltm_session_editors.proofs.crew.+crew+fn-crew-join+arg3.Goals as goal
+use Rattle.ltm_session_editors.proofs.editors.+edit_all+fn-edit_all-join+arg3.Goals as goal
 
 pub join-seat-requires-send-A : goal.join-seat-requires-send-A
 join-seat-requires-send-A g t c κs within = search (rules, sendable, crosses, seat.the_send, office_sends) depth 30

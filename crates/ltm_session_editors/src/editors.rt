@@ -27,7 +27,7 @@ fn both(one: Result<(), NoMemory>, other: Result<(), NoMemory>) -> Result<(), No
 
 /// Splits a seat for each script, starts its editor, and joins the seats in the other order. An editor for whom no thread can be
 /// made runs in this one.
-pub(crate) fn crew<R: Threads + Wait + Sync>(
+pub(crate) fn edit_all<R: Threads + Wait + Sync>(
     rt: &R,
     desk: &Desk<Office>,
     first: Seat<Office>,
@@ -80,7 +80,7 @@ pub(crate) fn crew<R: Threads + Wait + Sync>(
             ensures opening { (seat_place result.0).opening ≡ (seat_place first).opening }
             ensures all { OnOk result.1 (MadeAll (seat_place first).made scripts.items
                 (seat_place result.0).numbers (seat_seen result.0)) }
-        { crew(rt, desk, first, rest, scripts) },
+        { edit_all(rt, desk, first, rest, scripts) },
     );
     desk.join(&mut first, seat);
     (first, both(one, others))
