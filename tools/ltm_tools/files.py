@@ -241,7 +241,7 @@ def write_bytes(path: str | os.PathLike[str], data: bytes) -> None:
 
 def write_records(path: str | os.PathLike[str], header: Sequence[str], rows: Iterable[Sequence[object]]) -> None:
     """Writes a file of records as a case has them: fields of plain text with commas between, a line each."""
-    lines = [",".join(str(field) for field in row) for row in (header, *rows)]
+    lines = [",".join(map(str, row)) for row in (header, *rows)]
     write_text(path, "".join(line + "\n" for line in lines))
 
 

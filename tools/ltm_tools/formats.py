@@ -6,6 +6,7 @@ import re
 from collections.abc import Iterable
 from decimal import Decimal
 from fractions import Fraction
+from functools import lru_cache
 
 from .errors import Fault
 
@@ -203,6 +204,7 @@ def _told(text: str, decimals: int) -> int:
     return int(whole + part)
 
 
+@lru_cache(10_000)  # signals have few amounts, many times over
 def short_vehicles(units: int) -> str:
     """Thousandths as vehicles without zeros at the end, for files: 1250 is `1.25`, and 7000 is `7`."""
     return vehicles_text(units).rstrip("0").rstrip(".")

@@ -5,7 +5,7 @@ part. What is rounded off is carried on, so that over any time a link loses less
 """
 from __future__ import annotations
 
-from collections.abc import Mapping, Sequence
+from collections.abc import Iterator, Mapping, Sequence
 from dataclasses import dataclass
 from fractions import Fraction
 from math import lcm
@@ -54,50 +54,92 @@ def check_green(link: str, green: Green) -> None:
 def exit_limits(plan: Plan, *, capacity: int, step_ms: int, slots: int) -> list[Limit]:
     """The exit limits of a plan, for a link that takes a capacity (thousandths) in a slot; spans of slots with the same
     limit are one. A slot that is green as a whole has none."""
-    first, last = max(0, plan.start_ms // step_ms), min(slots, -(-plan.end_ms // step_ms))
-    limits: list[Limit] = []
-    let = Let(plan)
-    start = max(first * step_ms, plan.start_ms)
-    for slot in range(first, last):
-        end = min((slot + 1) * step_ms, plan.end_ms)
-        off = step_ms - (end - start)
-        if let.green(start, end) + let.parts * off < let.parts * step_ms:
-            units = min(MOST_SLOT_UNITS, let.units(end, capacity, step_ms) - let.units(start, capacity, step_ms)
-                        + capacity * off // step_ms)
-            if limits and limits[-1].to_slot == slot and limits[-1].units == units:
-                limits[-1] = Limit(plan.link, limits[-1].from_slot, slot + 1, units)
-            else:
-                limits.append(Limit(plan.link, slot, slot + 1, units))
-        start = end
-    return limits
+    spans: list[list[int]] = []
+    let = Let(plan, capacity, step_ms)
+    for first, last, units in let.spans(max(0, plan.start_ms // step_ms), min(slots, -(-plan.end_ms // step_ms))):
+        if spans and spans[-1][1] == first and spans[-1][2] == units:
+            spans[-1][1] = last
+        else:
+            spans.append([first, last, units])
+    return [Limit(plan.link, first, last, units) for first, last, units in spans]
 
 
 class Let:
-    """What a plan lets pass, in whole numbers: green times count in parts of a millisecond, as many as make the shares
-    of all greens whole."""
+    """What a plan lets pass, in whole numbers, of a link that takes a capacity in a step: green times count in parts of
+    a millisecond, as many as make the shares of all greens whole."""
 
-    def __init__(self, plan: Plan) -> None:
-        self.start = plan.start_ms
+    def __init__(self, plan: Plan, capacity: int, step_ms: int) -> None:
+        self.plan, self.capacity, self.step_ms = plan, capacity, step_ms
         self.parts = lcm(*(green.share.denominator for green in plan.greens))
-        self.greens = [(green, int(green.share * self.parts)) for green in plan.greens]
+        self.shares = [(green, int(green.share * self.parts)) for green in plan.greens]
+        self.cycle = lcm(*(green.cycle_ms for green in plan.greens))
         self.known: dict[int, int] = {}
+        self.of_cycle = self.exact(self.cycle) - self.exact(0)
         self.begun = self.by(plan.start_ms)
 
-    def by(self, time: int) -> int:
+    def exact(self, time: int) -> int:
         """The green up to a time, from the beginning of cycles that lie before 0."""
-        if time not in self.known:
-            self.known[time] = sum(share * green.whole_by(time) for green, share in self.greens)
-        return self.known[time]
+        return sum(share * green.whole_by(time) for green, share in self.shares)
 
-    def green(self, start: int, end: int) -> int:
-        """The green between two times, and at most the time between."""
-        return min(self.by(end) - self.by(start), self.parts * (end - start)) if start < end else 0
+    def by(self, time: int) -> int:
+        """The same; in each cycle it is as in the first."""
+        rounds, rest = divmod(time, self.cycle)
+        if rest not in self.known:
+            self.known[rest] = self.exact(rest)
+        return self.known[rest] + rounds * self.of_cycle
 
-    def units(self, time: int, capacity: int, step_ms: int) -> int:
-        """The thousandths of vehicles that pass from the plan's start to a time, of a link that takes a capacity in a
-        step."""
-        green = min(self.by(time) - self.begun, self.parts * (time - self.start))
-        return capacity * green // (self.parts * step_ms)
+    def spans(self, first: int, last: int) -> Iterator[tuple[int, int, int]]:
+        """The slots from one on up to another that are not green as a whole, and what passes in each; those in which
+        nothing does together, where cycles come round with the slots."""
+        times = range(0, lcm(self.cycle, self.step_ms), self.step_ms)
+        whole, begin = self.parts * self.step_ms, first
+        if self.comes_round(times):
+            runs = self.runs(first, len(times))
+            of_round, more = self.by(times.stop) - self.by(0), 0
+            while begin + len(times) <= min(last, self.plan.end_ms // self.step_ms):
+                for start, end, green, later in runs:
+                    count = self.capacity * (later + more) // whole - self.capacity * (green + more) // whole
+                    yield begin + start, begin + end, min(MOST_SLOT_UNITS, count)
+                begin, more = begin + len(times), more + of_round
+        for slot in range(begin, last):
+            if (units := self.units(slot)) is not None:
+                yield slot, slot + 1, units
+
+    def comes_round(self, times: range) -> bool:
+        """Whether the plan begins with a slot, lasts until cycles do so again, with slots at `times` behind the first,
+        and at no time lets more pass than the link takes."""
+        start = self.plan.start_ms
+        return (start >= 0 and start % self.step_ms == 0 and times.stop <= self.plan.end_ms - start
+                and self.of_cycle <= self.parts * self.cycle
+                and all(self.by(start + time) - self.begun <= self.parts * time for time in times))
+
+    def runs(self, first: int, count: int) -> list[tuple[int, int, int, int]]:
+        """Of so many slots those that are not green as a whole, from the first on, with the green since the plan began
+        up to their beginning and end: each, or where there is none all that follow each other."""
+        made: list[tuple[int, int, int, int]] = []
+        for place in range(count):
+            time = (first + place) * self.step_ms
+            green, later = self.by(time) - self.begun, self.by(time + self.step_ms) - self.begun
+            if made and made[-1][1:] == (place, green, later) and green == later:
+                made[-1] = made[-1][0], place + 1, green, later
+            elif later - green < self.parts * self.step_ms:
+                made.append((place, place + 1, green, later))
+        return made
+
+    def units(self, slot: int) -> int | None:
+        """What passes in a slot, or nothing where it is green as a whole, or as far as the plan goes."""
+        start = max(slot * self.step_ms, self.plan.start_ms)
+        end = min((slot + 1) * self.step_ms, self.plan.end_ms)
+        time, green, later = end - start, self.by(start), self.by(end)
+        if later - green >= self.parts * time:
+            return None
+        count = self.passed(end, later) - self.passed(start, green)
+        return min(MOST_SLOT_UNITS, count + self.capacity * (self.step_ms - time) // self.step_ms)
+
+    def passed(self, time: int, green: int) -> int:
+        """The thousandths of vehicles that pass from the plan's start to a time, by the green up to it."""
+        most = self.parts * (time - self.plan.start_ms)
+        return self.capacity * min(green - self.begun, most) // (self.parts * self.step_ms)
 
 
 def even_limits(plan: Plan, *, capacity: int, step_ms: int, slots: int) -> list[Limit]:

@@ -9,6 +9,7 @@ from __future__ import annotations
 from collections.abc import Callable, Iterable
 from dataclasses import dataclass, field, replace
 from fractions import Fraction
+from functools import lru_cache
 
 from ..case import Link
 from ..errors import Fault
@@ -100,13 +101,7 @@ def diagram(road: Road, step: int | None = None) -> Link:
     """The road in the whole numbers of `links.csv`: the nearest length, the speed with the nearest free-flow time, the
     jam density with the nearest storage, and the wave speed with the nearest capacity. With a step in ms the capacity
     is kept to what may pass in a slot."""
-    metres = nearest(road.length)
-    exact = metres * 3600 / road.time
-    below = max(1, exact.numerator // exact.denominator)
-    free = min((below, below + 1), key=lambda speed: abs(Fraction(metres * 3600, speed) - road.time))
-    jam = nearest(road.storage * 1000 / metres)
-    most = None if step is None else most_capacity(step)
-    wave = wave_of(road.capacity, free, jam, most)
+    metres, free, jam, wave = whole_numbers(road.length, road.time, road.storage, road.capacity, step)
     if wave is None or wave > MOST_KMH:
         raise Fault(f"link {road.name}: a capacity of {float(road.capacity):g} an hour is too much for {free} km/h and"
                     f" {jam} vehicles/km;"
@@ -116,6 +111,18 @@ def diagram(road: Road, step: int | None = None) -> Link:
                     f" {MOST_KMH} and {MOST_JAM_PER_KM}"
                     " are allowed; look at the units of lengths and speeds")
     return Link(road.name, road.tail, road.head, metres, free, wave, jam)
+
+
+@lru_cache(10_000)  # a fit asks again and again for roads that it has not changed
+def whole_numbers(length: Fraction, time: Fraction, storage: Fraction, capacity: Fraction,
+                  step: int | None) -> tuple[int, int, int, int | None]:
+    """The metres, free speed, jam density and wave speed of such a road; no wave where no top is so high."""
+    metres = nearest(length)
+    exact = metres * 3600 / time
+    below = max(1, exact.numerator // exact.denominator)
+    free = min((below, below + 1), key=lambda speed: abs(Fraction(metres * 3600, speed) - time))
+    jam = nearest(storage * 1000 / metres)
+    return metres, free, jam, wave_of(capacity, free, jam, None if step is None else most_capacity(step))
 
 
 def most_capacity(step: int) -> Fraction:
