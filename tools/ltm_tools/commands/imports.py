@@ -80,8 +80,8 @@ def add_crossing_arguments(parser: argparse.ArgumentParser) -> argparse._Argumen
                        help="how much a turn gets where it yields, in its green or at a sign: gaps, a share as 0.5, or"
                        " free (gaps)")
     group.add_argument("--gap", type=gap_argument, metavar="TC,TF,N",
-                       help="for gaps at signals: the critical gap and the follow-up time in seconds, and how many of a lane go"
-                       " when the green ends (4.5,2.2,1)")
+                       help="for gaps at signals: the critical gap and the follow-up time in seconds, and how many of a"
+                       " lane go when the green ends (4.5,2.2,1)")
     return group
 
 
