@@ -12,7 +12,8 @@ from ltm_tools.errors import Fault
 from ltm_tools.loading import counts as module, delay
 from ltm_tools.loading.counts import less, total
 from ltm_tools.loading.curves import Curves
-from ltm_tools.loading.loaded import loaded
+from ltm_tools.loading.loaded import loaded, made
+from ltm_tools.loading.told import ToldCurves
 from ltm_tools.program import has_command
 
 DATA = Path(__file__).resolve().parent / "data" / "delay"
@@ -163,8 +164,8 @@ class Exact(unittest.TestCase):
 
 
 class Told(FolderTest):
-    """A program, made for the test, that has a command `delay` or not, and whose report has 0.1 vehicle seconds more in
-    the queue of `a`."""
+    """A program, made for the test, whose sessions tell no curves, that has a command `delay` or not, and whose report
+    has 0.1 vehicle seconds more in the queue of `a`."""
 
     def made(self, usage: str) -> str:
         text = (DATA / "spillback" / "delay.out").read_text().replace("20.700000", "20.800000")
@@ -172,7 +173,10 @@ class Told(FolderTest):
 words = sys.argv[1:]
 with open({str(self.folder / "asked.txt")!r}, "a") as asked:
     asked.write(" ".join(words) + "\\n")
-if words == ["delay"]:
+if words == ["session", "0"]:
+    for line in sys.stdin:
+        print("refused command NotCommand 0")
+elif words == ["delay"]:
     sys.stdout.write({text!r})
 elif words == ["curves"]:
     sys.stdout.write(open("curves.csv").read())
@@ -187,7 +191,7 @@ else:
         self.assertRegex(commands.run("compare", case, case, "--program", named, "--format", "csv", "--table",
                                       "totals")[1], "queued_seconds,20.800000,20.800000,0.000000\n")
         self.assertEqual((self.folder / "asked.txt").read_text().split("\n"),
-                         ["curves", "", "delay", "curves", "curves", "delay", "delay", ""])
+                         ["session 0", "curves", "", "delay", *2 * ["session 0", "curves", "delay"], ""])
 
     def test_without_the_command(self) -> None:
         case, named = str(DATA / "spillback"), self.made("usage: ltm load | ltm delays | ltm session N")
@@ -205,7 +209,7 @@ else:
                                                                f"{case}/curves.csv")[1])
         self.assertIn("link,a,6000,16000,1,1.800,", commands.run("queues", case, "--program", named, "--format",
                                                                  "csv")[1])
-        self.assertEqual((self.folder / "asked.txt").read_text(), "curves\n")
+        self.assertEqual((self.folder / "asked.txt").read_text(), "session 0\ncurves\n")
 
     def test_no_program(self) -> None:
         self.assertFalse(has_command("delay", str(self.folder / "nowhere")))
@@ -215,6 +219,24 @@ else:
 @needs_program
 class Program(FolderTest):
     """What is worked out agrees with what the program tells of the same loading."""
+
+    def test_told_as_written(self) -> None:
+        """What a session tells of each link and origin, and of all who have arrived, is the sum of what the curve file
+        has for each destination; a destination is told too."""
+        for name in ("merge", "evening", "closures", "signal", "ramp_meter"):
+            case, curves = loaded(str(EXAMPLES / name), None, str(BUILT))
+            assert isinstance(curves, ToldCurves)
+            file = made(str(EXAMPLES / name), str(BUILT), case.setup.step_ms, case.setup.slots + 1)
+            self.assertEqual((curves.links, curves.nodes, curves.destinations),
+                             (file.links, file.nodes, file.destinations))
+            for kind, names in (("up", file.links), ("down", file.links), ("dep", file.nodes)):
+                for one in names:
+                    self.assertEqual(list(curves.counts(kind, one)), list(file.counts(kind, one)), (kind, one))
+            self.assertEqual(list(curves.all_arrived()), list(file.all_arrived()))
+            self.assertEqual(curves.report, delay.report(file, case))
+            end = case.destinations[-1]
+            self.assertEqual(list(curves.up(file.links[-1], end)), list(file.up(file.links[-1], end)))
+            self.assertRaisesRegex(Fault, "no `up` of nowhere", curves.up, "nowhere")
 
     def test_laws(self) -> None:
         for name in ("spillback", "incident", "corridor", "evening", "merge"):

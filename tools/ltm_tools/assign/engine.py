@@ -13,6 +13,7 @@ from ..case import Case
 from ..case.edits import Edit, splits
 from ..errors import Fault
 from ..formats import MOST_LINES, MOST_ROWS_ASKED, count_text
+from ..loading import answers
 from ..loading.counts import counts_of
 from ..loading.session import Session
 from ..sweep.scenarios import batches
@@ -113,10 +114,8 @@ class Engine:
 
 
 def two_of(answer: str, word: str, net: Net) -> tuple[Whole, Whole]:
-    """The two rows of counts of an answer to `curve` or `departures`, the second behind a word, which the name in front
-    may be too."""
-    front, _, second = answer.encode().rpartition(f" {word} ".encode())
-    first = b" ".join(front.split(b" ", 5)[5:])
+    """The two rows of counts of an answer to `curve` or `departures`, the second behind a word."""
+    first, second = answers.two_of(answer.encode(), word.encode())
     found = counts_of(first), counts_of(second)
     if any(counts is None or len(counts) != net.slots + 1 for counts in found):
         raise Fault(f"the program answers {answer[:60]!r}, which is no curve of {net.slots + 1} boundaries")

@@ -13,7 +13,6 @@ from ..formats import MINUTE_MS, clock_text
 from ..listing import Cell, TimeUnit, csv_text, json_text, seconds, text_table, time_unit, vehicles
 from ..loading.compare import Comparison, Pairs, change, most_changed, of_versions
 from ..loading.remaining import told_apart
-from ..loading.session import Session
 from ..loading.sides import side
 from ..network.source import approaches_of
 from .arguments import (add_each_link_argument, add_format_arguments, add_program_argument, add_start_argument,
@@ -99,8 +98,8 @@ def by_folders(args: argparse.Namespace) -> tuple[Comparison, tuple[str, str]]:
                     else "--versions tells of a --script")
     if args.gap and (args.curves, args.other_curves) != (None, None):
         raise Fault("--gap is told by the program of loadings that it makes: it goes with no curve file")
-    one = side(args.case, args.curves, args.program, Session, args.gap)
-    other = side(args.other, args.other_curves, args.program, Session, args.gap)
+    one = side(args.case, args.curves, args.program, args.gap)
+    other = side(args.other, args.other_curves, args.program, args.gap)
     return Comparison(one, other), (args.case, args.other)
 
 
@@ -111,7 +110,7 @@ def by_script(args: argparse.Namespace) -> tuple[Comparison, tuple[str, str]]:
                     " no curve file")
     made = [batch.edits for batch in batches_of(args.case, args.script, args.program) if batch.accepted]
     one, other = args.versions or (0, len(made))
-    return (of_versions(args.case, made, (one, other), args.program, Session, args.gap),
+    return (of_versions(args.case, made, (one, other), args.program, args.gap),
             (f"version {one} of {args.case}", f"version {other} of {len(made)}"))
 
 

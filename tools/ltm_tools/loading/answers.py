@@ -137,6 +137,11 @@ class Names(NamedTuple):
     nodes: Sequence[str]
 
 
+def totals_of(words: Sequence[str]) -> Totals:
+    """The answer to `totals`."""
+    return Totals(int(words[1]), *(told_units(words[place]) for place in (3, 5, 7, 9)))
+
+
 def state_of(words: Sequence[str], names: Names) -> State:
     """The answer to `state`."""
     entered, left, queue, waiting = (list(map(int, part)) for part in parts(words, 4, "in", "out", "queue", "waiting"))
@@ -173,6 +178,13 @@ def gap_of(words: Sequence[str]) -> Gap:
     """The answer to `gap`."""
     spent, least, gap = (told_time(words[place].removeprefix("-")) for place in (3, 5, 7))
     return Gap(int(words[1]), spent, least, -gap if words[7].startswith("-") else gap, told_units(words[9]))
+
+
+def two_of(answer: bytes, word: bytes) -> tuple[bytes, bytes]:
+    """The texts of both rows of counts of an answer to `curve` or `departures`, the second behind a word, which the
+    name in front may be too."""
+    front, _, second = answer.rpartition(b" " + word + b" ")
+    return b" ".join(front.split(b" ", 5)[5:]), second
 
 
 def parts(words: Sequence[str], place: int, *names: str) -> list[Sequence[str]]:

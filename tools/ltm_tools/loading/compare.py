@@ -9,7 +9,8 @@ from ..case.edits import Edit
 from ..case.keeping import case_of
 from .approaches import Approaches, grouped
 from .remaining import Remaining
-from .sides import Opens, Program, Side, side
+from .sides import Side, side
+from .told import Program
 
 Pairs = dict[str, tuple[int | None, int | None]]
 
@@ -65,19 +66,19 @@ class Comparison:
 
 
 def of_versions(folder: str | os.PathLike[str], made: Sequence[Sequence[Edit]], versions: tuple[int, int | None],
-                program: Program, opens: Opens, gap: bool = False) -> Comparison:
+                program: Program, gap: bool = False) -> Comparison:
     """Two versions of a case side by side: each after the first so many of these accepted batches, or after all where
     it is None."""
-    one, other = (of_version(folder, made, version, program, opens, gap) for version in versions)
+    one, other = (of_version(folder, made, version, program, gap) for version in versions)
     return Comparison(one, other)
 
 
 def of_version(folder: str | os.PathLike[str], made: Sequence[Sequence[Edit]], version: int | None, program: Program,
-               opens: Opens, gap: bool) -> Side:
+               gap: bool) -> Side:
     """The side of a version."""
     with tempfile.TemporaryDirectory() as kept:
         case_of(folder, made, version).write(kept)
-        return side(kept, None, program, opens, gap)
+        return side(kept, None, program, gap)
 
 
 def paired(one: Mapping[str, int], other: Mapping[str, int]) -> Pairs:

@@ -93,6 +93,11 @@ class Curves:
         """What has arrived at a destination by each boundary."""
         return self.counts("arr", destination, destination)
 
+    def all_arrived(self) -> Counts:
+        """What has arrived at all destinations by each boundary."""
+        ends = [self.arrived(name) for name in self.destinations]
+        return total(ends) if ends else zeros(self.boundaries)
+
     def counts(self, kind: str, name: str, destination: str | None = None) -> Counts:
         """The counts of a kind and name: of one destination, or the sums over all."""
         if not self._texts:  # a case without destinations has a file of the header alone
@@ -157,13 +162,17 @@ class Summed(Curves):
 
     def __init__(self, of: Curves) -> None:
         super().__init__(of.step_ms, of.boundaries, of._texts)
+        self._of = of
         self._sums: dict[tuple[str, str], Counts] = {}
+
+    def all_arrived(self) -> Counts:
+        return self._of.all_arrived()
 
     def counts(self, kind: str, name: str, destination: str | None = None) -> Counts:
         if destination is not None:
-            return super().counts(kind, name, destination)
+            return self._of.counts(kind, name, destination)
         if (kind, name) not in self._sums:
-            self._sums[kind, name] = super().counts(kind, name)
+            self._sums[kind, name] = self._of.counts(kind, name)
         return self._sums[kind, name]
 
 

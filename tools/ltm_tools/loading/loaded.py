@@ -10,6 +10,7 @@ from ..errors import Fault
 from ..formats import clock_text
 from . import delay
 from .curves import Curves
+from .told import ToldCurves, told
 
 
 class Loaded(NamedTuple):
@@ -45,8 +46,16 @@ def loaded(folder: str, curves: str | None, named: str | None) -> Loaded:
                 raise
             found = Curves.read(kept, step, boundaries)
         else:
-            found = made(folder, named, step, boundaries)
+            return made_by_program(case, folder, named)
     return Loaded(case, of_case(case, found))
+
+
+def made_by_program(case: Case, folder: str, named: str | None) -> Loaded:
+    """The case with the curves of its loading: as a session tells them, else as `ltm curves` writes them."""
+    def make() -> Curves:
+        return of_case(case, made(folder, named, case.setup.step_ms, case.setup.slots + 1))
+
+    return Loaded(case, told(case, folder, named, make) or make())
 
 
 def made(folder: str, named: str | None, step: int, boundaries: int) -> Curves:
@@ -64,6 +73,8 @@ def made(folder: str, named: str | None, step: int, boundaries: int) -> Curves:
 def told_delay(loading: Loaded, folder: str, curves: str | None, named: str | None) -> delay.Report:
     """The delay of what `loaded` gave for a folder: as the program tells it where it made the loading and has a command
     for it, and else worked out from the curves."""
+    if isinstance(loading.curves, ToldCurves):
+        return loading.curves.report
     if curves is None and program.has_command("delay", named):
         return program_delay(folder, named)
     return delay.report(loading.curves, loading.case)

@@ -22,7 +22,8 @@ from ..files import shown
 from ..formats import MOST_EDITS, MOST_LINE_BYTES, MOST_WORKERS, told_time, told_units, whole_of
 from ..program import nothing_told, start
 from .answers import (AllDelays, Delays, Gap, LinkCurve, LinkQueue, LinkTime, Names, OriginCurve, OriginQueue, Passed,
-                      Settled, State, Totals, all_delays_of, gap_of, link_curve_of, origin_curve_of, state_of)
+                      Settled, State, Totals, all_delays_of, gap_of, link_curve_of, origin_curve_of, state_of,
+                      totals_of)
 
 if TYPE_CHECKING:
     from .compare import Comparison
@@ -162,7 +163,7 @@ class Session:
         """Two versions side by side, the last where `other` is not named: see the module `compare`."""
         from .compare import of_versions
 
-        return of_versions(self.folder, self.made, (one, other), self.program, Session)
+        return of_versions(self.folder, self.made, (one, other), self.program)
 
     def settle(self) -> Settled:
         """Works out anew what the edits change, and shows it."""
@@ -170,8 +171,7 @@ class Session:
 
     def totals(self) -> Totals:
         """The totals of the loading that is shown."""
-        return self._told(lambda words: Totals(int(words[1]), *(told_units(words[place]) for place in (3, 5, 7, 9))),
-                          do="totals")
+        return self._told(totals_of, do="totals")
 
     def link(self, name: str) -> Passed:
         """What has entered and left a link in the loading that is shown."""

@@ -94,7 +94,7 @@ def told_queue(queue: Queue, unit: TimeUnit) -> dict[str, object]:
 
 def totals(one: Loaded, told: delay.Report, unit: TimeUnit) -> list[tuple[str, str]]:
     """The numbers above the map."""
-    arrived = sum(int(one.curves.arrived(end)[-1]) for end in one.case.destinations)
+    arrived = int(one.curves.all_arrived()[-1])
     return [(f"{name}, {unit.name}", format(unit.show(time), "f"))
             for name, time in (("spent", told.spent), ("queued", told.queued), ("waited", told.waited))] + [
                 ("arrived, vehicles", format(vehicles(arrived), "f"))]

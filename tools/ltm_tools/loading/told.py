@@ -1,0 +1,87 @@
+"""The curves of a loading as a session tells them, a line for each link and origin: sums over destinations, where `ltm
+curves` writes each curve for each destination."""
+from __future__ import annotations
+
+import functools
+import json
+import os
+from collections.abc import Callable, Mapping, Sequence
+from typing import TYPE_CHECKING
+
+from ..case import Case
+from ..program import output
+from .answers import Names, Totals, all_delays_of, totals_of, two_of
+from .counts import Counts, less, zeros
+from .curves import KINDS, Curves
+from .delay import Report, demand_of
+
+if TYPE_CHECKING:
+    import pandas
+
+Program = str | os.PathLike[str] | None
+Texts = Mapping[tuple[str, str], bytes]
+
+
+class ToldCurves(Curves):
+    """Sums over destinations, with the totals and the delay told beside them. Who asks for a destination has `whole`
+    make the curves of all, once."""
+
+    def __init__(self, case: Case, totals: Totals, report: Report, sums: Texts, make: Callable[[], Curves]) -> None:
+        super().__init__(case.setup.step_ms, case.setup.slots + 1, {})
+        self.case, self.totals, self.report, self.sums, self.make = case, totals, report, sums, make
+
+    @functools.cached_property
+    def whole(self) -> Curves:
+        """The curves for each destination."""
+        return self.make()
+
+    @property
+    def links(self) -> list[str]:
+        return [link.name for link in self.case.links]
+
+    @property
+    def nodes(self) -> list[str]:
+        return self.case.nodes
+
+    @property
+    def destinations(self) -> list[str]:
+        return self.case.destinations
+
+    def counts(self, kind: str, name: str, destination: str | None = None) -> Counts:
+        if destination is None and (text := self.sums.get((kind, name))) is not None:
+            return self._numbers(text, kind, name)
+        if destination is None and kind == "dep" and name in self.nodes:  # no origin
+            return zeros(self.boundaries)
+        return self.whole.counts(kind, name, destination)
+
+    def all_arrived(self) -> Counts:
+        """What has left the origins and is on no link."""
+        arrived = zeros(self.boundaries)
+        for name in self.report.origins:
+            arrived = less(arrived, less(zeros(self.boundaries), self.departed(name)))
+        for name in self.links:
+            arrived = less(arrived, self.on_link(name))
+        return arrived
+
+    def to_pandas(self, kinds: Sequence[str] = KINDS, by_destination: bool = False) -> "pandas.DataFrame":
+        return self.whole.to_pandas(kinds, by_destination)
+
+
+def told(case: Case, folder: str, program: Program, make: Callable[[], Curves]) -> ToldCurves | None:
+    """What a session tells of the loading of a case; None where the sessions of the program do not tell all of it."""
+    links, origins = [link.name for link in case.links], list(demand_of(case))
+    questions = [{"do": "totals"}, {"do": "delays"}, *({"do": "curve", "link": name} for name in links),
+                 *({"do": "departures", "node": name} for name in origins)]
+    script = b"".join(json.dumps(question).encode() + b"\n" for question in questions)
+    lines = output(folder, "session", "0", program=program, script=script).splitlines()
+    if len(lines) != len(questions) or any(line.startswith(b"refused ") for line in lines):
+        return None
+    totals, delays = (line.decode().split() for line in lines[:2])
+    all_delays = all_delays_of(delays, Names(links, case.nodes))
+    report = Report(dict(all_delays.links), {name: all_delays.nodes[name] for name in origins})
+    sums: dict[tuple[str, str], bytes] = {}
+    for name, line in zip(links, lines[2:]):
+        sums["up", name], sums["down", name] = two_of(line, b"out")
+    for name, line in zip(origins, lines[2 + len(links):]):
+        _, sums["dep", name] = two_of(line, b"left")
+    return ToldCurves(case, totals_of(totals), report, sums, make)
