@@ -13,12 +13,13 @@ from ltm_tools.case import Case, edits
 from ltm_tools.loading.session import Session
 
 # Two vehicles in five seconds from o to d for ten minutes, all by `fast`, which takes 40 s and lets a vehicle out every
-# two seconds; `slow` takes 100 s. In the second five minutes `fast` is shut.
+# two seconds; by m it takes 100 s, and of m there is no split row. In the second five minutes `fast` is shut.
 # nobody hears of it: the 120 who set out then wait until it is open; the n-th of them sets out 2.5 n after minute 5 and
 #                     arrives 2 n and 40 s after minute 10, so that together they take 120 x 340 - 120 x 120 / 4
-# all:                they take `slow`
+# all:                they go by m
 ROADS = {"setup": "step_ms,slots,origin_capacity,signals\n1000,1200,32,1\n",
-         "links": LINKS + "fast,o,d,400,36,18,300\nslow,o,d,1000,36,18,300\n",
+         "links": LINKS + "fast,o,d,400,36,18,300\nslow,o,m,500,36,18,300\n"
+                           "on,m,d,500,36,18,300\n",
          "demand": "origin,destination,from_slot,to_slot,vehicles\no,d,0,600,240\n",
          "splits": "node,destination,from_slot,weights\no,d,0,fast=1\n",
          "signals": SIGNALS + "fast,0,1200,0.5\n"}
@@ -26,6 +27,7 @@ OPEN = 240 * 40
 NOBODY = 120 * 40 + 120 * 340 - 120 * 120 // 4
 ALL = 120 * 40 + 120 * 100
 SHUT = {"kind": "close", "link": "fast", "from": 300, "to": 600}
+BY_M = edits.splits("m", "d", [(0, {"on": 1})])
 SLOWER = {"kind": "speed", "link": "slow", "kmh": 30}
 
 
@@ -89,7 +91,7 @@ class WhoHears(LiveTest):
             go.wait(60)
             assert callable(done)
             done(1)
-            return [edits.splits("o", "d", [(0, {"fast": 1}), (300, {"slow": 1})])]
+            return [BY_M, edits.splits("o", "d", [(0, {"fast": 1}), (300, {"slow": 1})])]
 
         with mock.patch("ltm_tools.live.hearing.edits_for", sought):
             await one.send({"edit": {**SHUT, "informed": 50}, "at": 1})
@@ -131,7 +133,7 @@ class WhoHears(LiveTest):
         lines = [json.dumps({"do": "totals", "change": {"batches": 3}}), '{"do":"totals"}',
                  json.dumps({"do": "totals", "change": {"on": False, "kind": "close", "link": "fast", "from": 300,
                                                         "to": 600, "informed": 50, "batches": 2}}),
-                 json.dumps({"do": "totals", "change": {"heard": [edits.splits("o", "d", [(0, {"slow": 1})])]}}),
+                 json.dumps({"do": "totals", "change": {"heard": [BY_M, edits.splits("o", "d", [(0, {"slow": 1})])]}}),
                  '{"do":"delay"}']
         script = self.folder / "changes.jsonl"
         script.write_text("\n".join(lines) + "\n")

@@ -7,7 +7,7 @@ with the closure shows them, from the period on in which it begins, and the othe
 from __future__ import annotations
 
 import os
-from collections.abc import Callable, Sequence
+from collections.abc import Callable, Container, Mapping, Sequence
 from dataclasses import dataclass
 from typing import NamedTuple
 
@@ -143,19 +143,36 @@ class Base:
         return best
 
     def _edits(self, weights: Whole, first: int) -> list[Edit]:
-        """Edits that set these weights from period `first` on, where they are others than those of before; rows before
-        it stay as the case has them."""
+        """Edits that set these weights from period `first` on, where they are others than those of before, or where the
+        case has no rows and they lead there: those come before what leads to them. Rows before that period stay as the
+        case has them."""
         own: dict[Pair, PairRows] = {}
         for row in sorted(self.case.standing_splits(), key=lambda row: row.from_slot):
             own.setdefault((row.node, row.destination), []).append((row.from_slot, dict(row.weights)))
         start = first * self.period
         whole, before = (rows_of(self.net, self.weights[span:], self.period) for span in (0, first))
-        found = []
-        for pair, rows in rows_of(self.net, weights[first:], self.period).items():
-            if rows != before[pair]:
-                kept = [row for row in own.get(pair, whole[pair]) if row[0] < start]
-                found.append(edits.splits(*pair, [*kept, *((start + slot, of_row) for slot, of_row in rows)]))
-        return found
+        later = rows_of(self.net, weights[first:], self.period)
+        after = {pair: [*(row for row in own.get(pair, whole[pair]) if row[0] < start),
+                        *((start + slot, of_row) for slot, of_row in rows)] for pair, rows in later.items()}
+        changed = [pair for pair, rows in later.items() if rows != before[pair]]
+        return [edits.splits(*pair, after[pair]) for pair in self._led_to(changed, after, own)]
+
+    def _led_to(self, changed: Sequence[Pair], after: Mapping[Pair, PairRows], own: Container[Pair]) -> list[Pair]:
+        """These pairs, and those without rows of their own to which rows lead, each of them before what leads to it."""
+        heads = {link.name: link.head for link in self.case.links}
+        found: dict[Pair, None] = {}
+        begun: set[Pair] = set()
+        stack = list(reversed(changed))
+        while stack:
+            pair = stack[-1]
+            begun.add(pair)
+            led_to = {(heads[name], pair[1]) for _, row in after[pair] for name in row if heads[name] != pair[1]}
+            wanted = sorted(one for one in led_to if one not in own and one not in begun)
+            if wanted and pair not in found:
+                stack += wanted[:1]
+            else:
+                found[stack.pop()] = None
+        return list(found)
 
     def _regret(self, seen: Seen, weights: Whole, share: int) -> float:
         """The regret of the informed, who have these weights."""
