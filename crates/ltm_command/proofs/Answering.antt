@@ -7,72 +7,46 @@ use Rattle.ltm_casefile.specs.declared.faults.CaseFault.{CaseFault}
 use Rattle.ltm_casefile.specs.declared.faults.CaseFault.TheVariants as fault
 use Rattle.ltm_casefile.specs.Faults.{Agrees}
 use Rattle.ltm_casefile.specs.Case.{case_of}
+use Rattle.ltm_routes_command.specs.declared.lines.RouteLines.{RouteLines}
 use Rattle.ltm_routes_command.specs.declared.lines.RouteLines.TheVariants as lines
 use Rattle.ltm_routes_command.specs.Routing as routing
 use Rattle.ltm_routes_command.specs.File.{IsSplitsFile, IsTimesFile}
 use Rattle.ltm_command.specs.declared.words.Command.TheVariants as command
-use Rattle.ltm_report.specs.Reports.{IsReport}
-use Rattle.ltm_report.specs.DelayReports.{IsDelayReport}
-use Rattle.ltm_report.specs.GapReports.{IsGapReport}
+use Rattle.ltm_command.specs.declared.words.Report.{Report}
 use Rattle.ltm_check_command.specs.declared.refusal.Refusal.{Refusal}
 use Rattle.ltm_check_command.specs.declared.refusal.Refusal.TheVariants as refusal
 use Rattle.ltm_check_command.specs.Loaded.{IsLoadingText}
 use Rattle.ltm_check_command.specs.Checks.{AnswersRefusal}
-use Rattle.ltm_command.specs.Answers.{Answers, AnswersFault, Describes, ReportAnswer}
+use Rattle.ltm_command.specs.Answers.{Answers, AnswersFault, Describes, Reports, IsRoutesFile}
 
-pub load_told : (told : Option Files) (s : ScenarioData) (text : List ℕ) → Describes told (Ok s) → IsReport s text → Answers command.Load told (Ok text)
-load_told told s text describes report = (Ok s, describes, (text, report, refl))
+pub report_told : (report : Report) (told : Option Files) (s : ScenarioData) (text : List ℕ) → Describes told (Ok s) → Reports report s text → Answers (command.Report report) told (Ok text)
+report_told report told s text describes is = (Ok s, describes, (text, is, refl))
 
-pub delay_told : (told : Option Files) (s : ScenarioData) (text : List ℕ) → Describes told (Ok s) → IsDelayReport s text → Answers command.Delay told (Ok text)
-delay_told told s text describes report = (Ok s, describes, (text, report, refl))
-
-pub gap_told : (told : Option Files) (s : ScenarioData) (text : List ℕ) → Describes told (Ok s) → IsGapReport s text → Answers command.Gap told (Ok text)
-gap_told told s text describes report = (Ok s, describes, (text, report, refl))
-
--- a report of any kind
-refused : (Reports : ScenarioData → List ℕ → Type 0) (told : Option Files) (e : CaseFault) → IfSome told (λ files. case_of files ≡ Err e) → ReportAnswer Reports told (Err (refusal.Case e))
-refused Reports told e describes = (Err e, describes, refl)
-
-pub load_fault : (told : Option Files) (e : CaseFault) → IfSome told (λ files. Agrees (case_of files) e) → AnswersFault command.Load told (refusal.Case e)
-load_fault told (fault.Folder f) agrees = tt
-load_fault told (fault.TooLong f) agrees = refused IsReport told (fault.TooLong f) agrees
-load_fault told (fault.Bad f row cause) agrees = refused IsReport told (fault.Bad f row cause) agrees
-load_fault told fault.NoMemory agrees = tt
-
-pub delay_fault : (told : Option Files) (e : CaseFault) → IfSome told (λ files. Agrees (case_of files) e) → AnswersFault command.Delay told (refusal.Case e)
-delay_fault told (fault.Folder f) agrees = tt
-delay_fault told (fault.TooLong f) agrees = refused IsDelayReport told (fault.TooLong f) agrees
-delay_fault told (fault.Bad f row cause) agrees = refused IsDelayReport told (fault.Bad f row cause) agrees
-delay_fault told fault.NoMemory agrees = tt
-
-pub gap_fault : (told : Option Files) (e : CaseFault) → IfSome told (λ files. Agrees (case_of files) e) → AnswersFault command.Gap told (refusal.Case e)
-gap_fault told (fault.Folder f) agrees = tt
-gap_fault told (fault.TooLong f) agrees = refused IsGapReport told (fault.TooLong f) agrees
-gap_fault told (fault.Bad f row cause) agrees = refused IsGapReport told (fault.Bad f row cause) agrees
-gap_fault told fault.NoMemory agrees = tt
+pub report_fault : (report : Report) (told : Option Files) (e : CaseFault) → IfSome told (λ files. Agrees (case_of files) e) → AnswersFault (command.Report report) told (refusal.Case e)
+report_fault report told (fault.Folder f) agrees = tt
+report_fault report told (fault.TooLong f) agrees = (Err (fault.TooLong f), agrees, refl)
+report_fault report told (fault.Bad f row cause) agrees = (Err (fault.Bad f row cause), agrees, refl)
+report_fault report told fault.NoMemory agrees = tt
 
 -- where two facts are known of what was answered, so is what follows from both
 pub joined : {A E : Type 0} (r : Result A E) (P Q R : A → Type 0) → ((x : A) → P x → Q x → R x) → IfOk r P → IfOk r Q → IfOk r R
 joined (Ok x) P Q R follows p q = follows x p q
 joined (Err e) P Q R follows p q = tt
 
-pub routes_told : (told : Option Files) (text : List ℕ) → routing.AnswersRoutes lines.Splits told (Ok text) → IsSplitsFile told text → Answers command.Routes told (Ok text)
-routes_told told text says file = ((Ok text, says, refl), file)
+pub routes_told : (which : RouteLines) (told : Option Files) (text : List ℕ) → routing.AnswersRoutes which told (Ok text) → IsRoutesFile which told text → Answers (command.Routes which) told (Ok text)
+routes_told which told text says file = ((Ok text, says, refl), file)
 
-pub times_told : (told : Option Files) (text : List ℕ) → routing.AnswersRoutes lines.Times told (Ok text) → IsTimesFile told text → Answers command.RouteTimes told (Ok text)
-times_told told text says file = ((Ok text, says, refl), file)
+-- a file of either kind is what it is to be
+pub file_of : {A E : Type 0} (which : RouteLines) (told : Option Files) (bytes : A → List ℕ) (r : Result A E) → (which ≡ lines.Splits → IfOk r (λ x. IsSplitsFile told (bytes x)))
+    → (which ≡ lines.Times → IfOk r (λ x. IsTimesFile told (bytes x))) → IfOk r (λ x. IsRoutesFile which told (bytes x))
+file_of lines.Splits told bytes r splits times = splits refl
+file_of lines.Times told bytes r splits times = times refl
 
-pub routes_fault : (told : Option Files) (e : CaseFault) → routing.AnswersFault lines.Splits told e → AnswersFault command.Routes told (refusal.Case e)
-routes_fault told (fault.Folder f) says = tt
-routes_fault told (fault.TooLong f) says = ((Err (fault.TooLong f), says, refl), tt)
-routes_fault told (fault.Bad f row cause) says = ((Err (fault.Bad f row cause), says, refl), tt)
-routes_fault told fault.NoMemory says = tt
-
-pub times_fault : (told : Option Files) (e : CaseFault) → routing.AnswersFault lines.Times told e → AnswersFault command.RouteTimes told (refusal.Case e)
-times_fault told (fault.Folder f) says = tt
-times_fault told (fault.TooLong f) says = ((Err (fault.TooLong f), says, refl), tt)
-times_fault told (fault.Bad f row cause) says = ((Err (fault.Bad f row cause), says, refl), tt)
-times_fault told fault.NoMemory says = tt
+pub routes_fault : (which : RouteLines) (told : Option Files) (e : CaseFault) → routing.AnswersFault which told e → AnswersFault (command.Routes which) told (refusal.Case e)
+routes_fault which told (fault.Folder f) says = tt
+routes_fault which told (fault.TooLong f) says = ((Err (fault.TooLong f), says, refl), tt)
+routes_fault which told (fault.Bad f row cause) says = ((Err (fault.Bad f row cause), says, refl), tt)
+routes_fault which told fault.NoMemory says = tt
 
 -- the curve file of the loading of a case
 pub curves_told : (told : Option Files) (s : ScenarioData) (text : List ℕ) → Describes told (Ok s) → IsLoadingText s text → Answers command.Curves told (Ok text)

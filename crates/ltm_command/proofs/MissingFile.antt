@@ -12,29 +12,24 @@ use Rattle.ltm_casefile.specs.declared.faults.CaseFault.TheVariants as fault
 use Rattle.ltm_casefile.specs.Case.{asks_for}
 use Rattle.ltm_casefile.specs.Faults.{HasRisen, WasAsked}
 use Rattle.ltm_casefile.specs.Roads.{is_of_roads}
+use Rattle.ltm_routes_command.specs.declared.lines.RouteLines.{RouteLines}
 use Rattle.ltm_command.specs.declared.words.Command.TheVariants as command
+use Rattle.ltm_command.specs.declared.words.Report.{Report}
+use Rattle.ltm_command.specs.declared.words.Report.TheVariants as report
 use Rattle.ltm_check_command.specs.declared.refusal.Refusal.{Refusal}
 use Rattle.ltm_check_command.specs.declared.refusal.Refusal.TheVariants as refusal
 use Rattle.ltm_check_command.specs.Checks.{HasMissed}
 use Rattle.ltm_command.specs.Program.{FileFailed, IsMissing}
 
-pub failed : (told : Option Files) (before now : Doc → ℕ) (f : File)
-    → IfSome told (λ files. WasAsked (asks_for files) (fault.Folder f)) → HasRisen before now (fault.Folder f) → FileFailed command.Load told before now
-failed told before now file.Setup asked rose = (doc.Setup, refl, asked, rose)
-failed told before now file.Links asked rose = (doc.Links, refl, asked, rose)
-failed told before now file.Demand asked rose = (doc.Demand, refl, asked, rose)
-failed told before now file.Splits asked rose = (doc.Splits, refl, asked, rose)
-failed told before now file.Signals asked rose = (doc.Signals, refl, asked, rose)
-failed told before now file.Limits asked rose = (doc.Limits, refl, asked, rose)
-failed told before now file.Whole asked rose = absurd rose
-
-pub delay_failed : (told : Option Files) (before now : Doc → ℕ) (f : File)
-    → IfSome told (λ files. WasAsked (asks_for files) (fault.Folder f)) → HasRisen before now (fault.Folder f) → FileFailed command.Delay told before now
-delay_failed told before now f asked rose = failed told before now f asked rose
-
-pub gap_failed : (told : Option Files) (before now : Doc → ℕ) (f : File)
-    → IfSome told (λ files. WasAsked (asks_for files) (fault.Folder f)) → HasRisen before now (fault.Folder f) → FileFailed command.Gap told before now
-gap_failed told before now f asked rose = failed told before now f asked rose
+pub failed : (report : Report) (told : Option Files) (before now : Doc → ℕ) (f : File)
+    → IfSome told (λ files. WasAsked (asks_for files) (fault.Folder f)) → HasRisen before now (fault.Folder f) → FileFailed (command.Report report) told before now
+failed report told before now file.Setup asked rose = (doc.Setup, refl, asked, rose)
+failed report told before now file.Links asked rose = (doc.Links, refl, asked, rose)
+failed report told before now file.Demand asked rose = (doc.Demand, refl, asked, rose)
+failed report told before now file.Splits asked rose = (doc.Splits, refl, asked, rose)
+failed report told before now file.Signals asked rose = (doc.Signals, refl, asked, rose)
+failed report told before now file.Limits asked rose = (doc.Limits, refl, asked, rose)
+failed report told before now file.Whole asked rose = absurd rose
 
 -- the same of the roads and the demand
 abbrev RoadsFailed : Option Files → (Doc → ℕ) → (Doc → ℕ) → Type 0
@@ -53,16 +48,13 @@ roads_failed told before now file.Signals asked rose = of_roads told before now 
 roads_failed told before now file.Limits asked rose = of_roads told before now doc.Limits asked rose
 roads_failed told before now file.Whole asked rose = absurd rose
 
-pub routes_failed : (told : Option Files) (before now : Doc → ℕ) (f : File) → WasAsked is_of_roads (fault.Folder f) → HasRisen before now (fault.Folder f) → FileFailed command.Routes told before now
-routes_failed told before now f asked rose = roads_failed told before now f asked rose
-
-pub times_failed : (told : Option Files) (before now : Doc → ℕ) (f : File) → WasAsked is_of_roads (fault.Folder f) → HasRisen before now (fault.Folder f) → FileFailed command.RouteTimes told before now
-times_failed told before now f asked rose = roads_failed told before now f asked rose
+pub routes_failed : (which : RouteLines) (told : Option Files) (before now : Doc → ℕ) (f : File) → WasAsked is_of_roads (fault.Folder f) → HasRisen before now (fault.Folder f) → FileFailed (command.Routes which) told before now
+routes_failed which told before now f asked rose = roads_failed told before now f asked rose
 
 -- of the curve file of a case, and of a check
 pub curves_missed : (told : Option Files) (before now : Doc → ℕ) (e : CaseFault)
     → IfSome told (λ files. WasAsked (asks_for files) e) → HasRisen before now e → IsMissing (refusal.Case e) → FileFailed command.Curves told before now
-curves_missed told before now (fault.Folder f) asked rose missing = failed told before now f asked rose
+curves_missed told before now (fault.Folder f) asked rose missing = failed report.Load told before now f asked rose
 curves_missed told before now (fault.TooLong f) asked rose missing = absurd missing
 curves_missed told before now (fault.Bad f row cause) asked rose missing = absurd missing
 curves_missed told before now fault.NoMemory asked rose missing = absurd missing

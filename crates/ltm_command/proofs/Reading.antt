@@ -6,9 +6,11 @@ use Rattle.std.specs.List.{list_all}
 use Rattle.std.proofs.lemmas.Bool.Decides.{nat_tests}
 use Rattle.std.proofs.lemmas.Slice.Eq.{bytes_eq-Decides}
 use Rattle.ltm_units.specs.Numbers.{is_digit, value, number_told}
+use Rattle.ltm_routes_command.specs.declared.lines.RouteLines.TheVariants as lines
 use Rattle.ltm_try_command.specs.Words.{start_of, nodes_of, if_at_least}
 use Rattle.ltm_command.specs.declared.words.Command.{Command}
 use Rattle.ltm_command.specs.declared.words.Command.TheVariants as command
+use Rattle.ltm_command.specs.declared.words.Report.TheVariants as report
 use Rattle.ltm_command.specs.Words.{Asks, IsSized, OneReading, number_of, workers_of, viewers_of, editors_of, when, trial_of, one_word, two_words, command_of}
 
 -- ---- the words of each command are read as it
@@ -17,13 +19,13 @@ asks_trial words start nodes (a, b, is, starts, has) =
     ap command_of is ∙ ap (λ (o : Option ℕ). trial_of o (nodes_of b)) starts ∙ ap (λ (o : Option ℕ). trial_of (Some start) o) has
 
 pub asked : (words : List (List ℕ)) (c : Command) → Asks words c → command_of words ≡ Some c
-asked words command.Load is = ap command_of is
-asked words command.Delay is = ap command_of is
-asked words command.Gap is = ap command_of is
+asked words (command.Report report.Load) is = ap command_of is
+asked words (command.Report report.Delay) is = ap command_of is
+asked words (command.Report report.Gap) is = ap command_of is
 asked words command.Curves is = ap command_of is
 asked words command.Check is = ap command_of is
-asked words command.Routes is = ap command_of is
-asked words command.RouteTimes is = ap command_of is
+asked words (command.Routes lines.Splits) is = ap command_of is
+asked words (command.Routes lines.Times) is = ap command_of is
 asked words (command.Try start nodes) asks = asks_trial words start nodes asks
 asked words (command.Session n) (number, is, some) = ap command_of is ∙ ap (λ (o : Option ℕ). option_map command.Session o) some
 asked words (command.View n) (number, is, some) = ap command_of is ∙ ap (λ (o : Option ℕ). option_map command.View o) some
@@ -52,23 +54,23 @@ mapped f (Some n) c is = (n, refl, is_one (f n) c is)
 
 alone : (word : List ℕ) (c : Command) → one_word word ≡ Some c → Asks (word ∷ []) c
 alone word c is =
-    let routes = when word (codes "routes") (Some command.Routes) None in
+    let routes = when word (codes "routes") (Some (command.Routes lines.Splits)) None in
     let check = when word (codes "check") (Some command.Check) routes in
     let curves = when word (codes "curves") (Some command.Curves) check in
-    let gap = when word (codes "gap") (Some command.Gap) curves in
-    let delay = when word (codes "delay") (Some command.Delay) gap in
-    elim (when_some word (codes "load") (Some command.Load) delay c is) [
-      | inl (same, this) ↦ subst (Asks (word ∷ [])) (is_one command.Load c this) (ap (λ w. w ∷ []) same)
-      | inr next ↦ elim (when_some word (codes "delay") (Some command.Delay) gap c next) [
-        | inl (same, this) ↦ subst (Asks (word ∷ [])) (is_one command.Delay c this) (ap (λ w. w ∷ []) same)
-        | inr after ↦ elim (when_some word (codes "gap") (Some command.Gap) curves c after) [
-          | inl (same, this) ↦ subst (Asks (word ∷ [])) (is_one command.Gap c this) (ap (λ w. w ∷ []) same)
+    let gap = when word (codes "gap") (Some (command.Report report.Gap)) curves in
+    let delay = when word (codes "delay") (Some (command.Report report.Delay)) gap in
+    elim (when_some word (codes "load") (Some (command.Report report.Load)) delay c is) [
+      | inl (same, this) ↦ subst (Asks (word ∷ [])) (is_one (command.Report report.Load) c this) (ap (λ w. w ∷ []) same)
+      | inr next ↦ elim (when_some word (codes "delay") (Some (command.Report report.Delay)) gap c next) [
+        | inl (same, this) ↦ subst (Asks (word ∷ [])) (is_one (command.Report report.Delay) c this) (ap (λ w. w ∷ []) same)
+        | inr after ↦ elim (when_some word (codes "gap") (Some (command.Report report.Gap)) curves c after) [
+          | inl (same, this) ↦ subst (Asks (word ∷ [])) (is_one (command.Report report.Gap) c this) (ap (λ w. w ∷ []) same)
           | inr rest ↦ elim (when_some word (codes "curves") (Some command.Curves) check c rest) [
             | inl (same, this) ↦ subst (Asks (word ∷ [])) (is_one command.Curves c this) (ap (λ w. w ∷ []) same)
             | inr more ↦ elim (when_some word (codes "check") (Some command.Check) routes c more) [
               | inl (same, this) ↦ subst (Asks (word ∷ [])) (is_one command.Check c this) (ap (λ w. w ∷ []) same)
-              | inr last ↦ elim (when_some word (codes "routes") (Some command.Routes) None c last) [
-                | inl (same, this) ↦ subst (Asks (word ∷ [])) (is_one command.Routes c this) (ap (λ w. w ∷ []) same)
+              | inr last ↦ elim (when_some word (codes "routes") (Some (command.Routes lines.Splits)) None c last) [
+                | inl (same, this) ↦ subst (Asks (word ∷ [])) (is_one (command.Routes lines.Splits) c this) (ap (λ w. w ∷ []) same)
                 | inr none ↦ absurd (nothing c none)
               ]
             ]
@@ -82,9 +84,9 @@ numbered : (f : ℕ → Command) (counts : List ℕ → Option ℕ) (t word seco
     → (n : ℕ) × (f n ≡ c) × ((number : List ℕ) × (word ∷ second ∷ [] ≡ t ∷ number ∷ []) × (counts number ≡ Some n))
 numbered f counts t word second c same is = let m = mapped f (counts second) c is in (m.0, m.2, (second, ap (λ w. w ∷ second ∷ []) same, m.1))
 
-times_read : (word second : List ℕ) (c : Command) → word ≡ codes "routes" → when second (codes "times") (Some command.RouteTimes) None ≡ Some c → Asks (word ∷ second ∷ []) c
-times_read word second c same is = elim (when_some second (codes "times") (Some command.RouteTimes) None c is) [
-  | inl (also, this) ↦ subst (Asks (word ∷ second ∷ [])) (is_one command.RouteTimes c this) (ap (λ w. w ∷ second ∷ []) same ∙ ap (λ w. codes "routes" ∷ w ∷ []) also)
+times_read : (word second : List ℕ) (c : Command) → word ≡ codes "routes" → when second (codes "times") (Some (command.Routes lines.Times)) None ≡ Some c → Asks (word ∷ second ∷ []) c
+times_read word second c same is = elim (when_some second (codes "times") (Some (command.Routes lines.Times)) None c is) [
+  | inl (also, this) ↦ subst (Asks (word ∷ second ∷ [])) (is_one (command.Routes lines.Times) c this) (ap (λ w. w ∷ second ∷ []) same ∙ ap (λ w. codes "routes" ∷ w ∷ []) also)
   | inr none ↦ absurd (nothing c none)
 ]
 
@@ -93,7 +95,7 @@ pair word second c is =
     let editors = when word (codes "editors") (option_map command.Editors (editors_of second)) None in
     let views = when word (codes "view") (option_map command.View (viewers_of second)) editors in
     let sessions = when word (codes "session") (option_map command.Session (workers_of second)) views in
-    elim (when_some word (codes "routes") (when second (codes "times") (Some command.RouteTimes) None) sessions c is) [
+    elim (when_some word (codes "routes") (when second (codes "times") (Some (command.Routes lines.Times)) None) sessions c is) [
       | inl (same, this) ↦ times_read word second c same this
       | inr rest ↦ elim (when_some word (codes "session") (option_map command.Session (workers_of second)) views c rest) [
         | inl (same, this) ↦ let h = numbered command.Session workers_of (codes "session") word second c same this in subst (Asks (word ∷ second ∷ [])) h.1 h.2

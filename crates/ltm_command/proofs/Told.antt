@@ -11,18 +11,14 @@ use Rattle.ltm_casefile.specs.declared.faults.CaseFault.{CaseFault}
 use Rattle.ltm_casefile.specs.declared.faults.CaseFault.TheVariants as fault
 use Rattle.ltm_report.specs.CaseFaults.{bad_case_line}
 use Rattle.ltm_routes_command.specs.declared.lines.RouteLines.{RouteLines}
-use Rattle.ltm_routes_command.specs.declared.lines.RouteLines.TheVariants as lines
 use Rattle.ltm_routes_command.specs.Routing.{RoutesAnswer}
-use Rattle.ltm_routes_command.specs.File.{IsSplitsFile, IsTimesFile}
 use Rattle.ltm_routes_command.proofs.Missing.{missing_said}
 use Rattle.ltm_command.specs.declared.status.Status.{Status}
 use Rattle.ltm_command.specs.declared.status.Status.TheVariants as ending
 use Rattle.ltm_command.specs.declared.words.Command.{Command}
 use Rattle.ltm_command.specs.declared.words.Command.TheVariants as ask
+use Rattle.ltm_command.specs.declared.words.Report.{Report}
 use Rattle.ltm_try_command.specs.Trial.{IsTrial}
-use Rattle.ltm_report.specs.Reports.{IsReport}
-use Rattle.ltm_report.specs.DelayReports.{IsDelayReport}
-use Rattle.ltm_report.specs.GapReports.{IsGapReport}
 use Rattle.ltm_check.specs.Left.{records_of}
 use Rattle.ltm_check.specs.ReadBack.{TellsLoading}
 use Rattle.ltm_check_command.specs.declared.refusal.Refusal.{Refusal}
@@ -31,7 +27,7 @@ use Rattle.ltm_check_command.specs.Lines.{yes_line}
 use Rattle.ltm_check_command.specs.Loaded.{IsLoadingText}
 use Rattle.ltm_check_command.specs.Checks.{HasCurves, most_bytes}
 use Rattle.ltm_check_command.proofs.Exact.{yes_told, only_yes, missing_case, missing_curves}
-use Rattle.ltm_command.specs.Answers.{Answer, Answers, AnswersFault, Describes, RouteAnswer, answer_of, fetches, ReportAnswer}
+use Rattle.ltm_command.specs.Answers.{Answer, Answers, AnswersFault, Describes, Reports, IsRoutesFile, RouteAnswer, answer_of, fetches, ReportAnswer}
 use Rattle.ltm_command.specs.Program.{status_of, words_of, refusal_status, IsTold, IsMissing, IsLong, IsAnswerUnder, Fetches, IsCalm}
 
 -- a refusal of which a line tells is the answer
@@ -103,31 +99,15 @@ only_long refusal.NoStart is = cc
 only_long (refusal.NoStep node slot) is = cc
 
 -- ---- what belongs to a status
-pub loaded : (told : Option Files) (text : List ℕ) → IsAnswerUnder ask.Load told ending.Ok text → (s : ScenarioData) × Describes told (Ok s) × IsReport s text
-loaded told text (Ok t, (Ok s, describes, (u, report, same)), ok, is) =
-    let equal : u ≡ text = cc in (s, describes, subst (IsReport s) equal report)
-loaded told text (Ok t, (Err fault, describes, same), ok, is) = cc
-loaded told text (Err e, says, ok, is) = absurd (never_ok e ok)
+pub reported : (report : Report) (told : Option Files) (text : List ℕ) → IsAnswerUnder (ask.Report report) told ending.Ok text → (s : ScenarioData) × Describes told (Ok s) × Reports report s text
+reported report told text (Ok t, (Ok s, describes, (u, is, same)), ok, at) =
+    let equal : u ≡ text = cc in (s, describes, subst (Reports report s) equal is)
+reported report told text (Ok t, (Err fault, describes, same), ok, at) = cc
+reported report told text (Err e, says, ok, at) = absurd (never_ok e ok)
 
-pub delayed : (told : Option Files) (text : List ℕ) → IsAnswerUnder ask.Delay told ending.Ok text → (s : ScenarioData) × Describes told (Ok s) × IsDelayReport s text
-delayed told text (Ok t, (Ok s, describes, (u, report, same)), ok, is) =
-    let equal : u ≡ text = cc in (s, describes, subst (IsDelayReport s) equal report)
-delayed told text (Ok t, (Err fault, describes, same), ok, is) = cc
-delayed told text (Err e, says, ok, is) = absurd (never_ok e ok)
-
-pub gapped : (told : Option Files) (text : List ℕ) → IsAnswerUnder ask.Gap told ending.Ok text → (s : ScenarioData) × Describes told (Ok s) × IsGapReport s text
-gapped told text (Ok t, (Ok s, describes, (u, report, same)), ok, is) =
-    let equal : u ≡ text = cc in (s, describes, subst (IsGapReport s) equal report)
-gapped told text (Ok t, (Err fault, describes, same), ok, is) = cc
-gapped told text (Err e, says, ok, is) = absurd (never_ok e ok)
-
-pub routed : (told : Option Files) (text : List ℕ) → IsAnswerUnder ask.Routes told ending.Ok text → IsSplitsFile told text
-routed told text (Ok t, (says, file), ok, is) = subst (IsSplitsFile told) (sym is) file
-routed told text (Err e, says, ok, is) = absurd (never_ok e ok)
-
-pub timed : (told : Option Files) (text : List ℕ) → IsAnswerUnder ask.RouteTimes told ending.Ok text → IsTimesFile told text
-timed told text (Ok t, (says, file), ok, is) = subst (IsTimesFile told) (sym is) file
-timed told text (Err e, says, ok, is) = absurd (never_ok e ok)
+pub routed : (which : RouteLines) (told : Option Files) (text : List ℕ) → IsAnswerUnder (ask.Routes which) told ending.Ok text → IsRoutesFile which told text
+routed which told text (Ok t, (says, file), ok, is) = subst (IsRoutesFile which told) (sym is) file
+routed which told text (Err e, says, ok, is) = absurd (never_ok e ok)
 
 curves_in : (told : Option Files) (text t : List ℕ) (s : ScenarioData) → Describes told (Ok s) → IsLoadingText s t → t ≡ text → (s : ScenarioData) × Describes told (Ok s) × IsLoadingText s text
 curves_in told text t s describes is same = (s, describes, subst (IsLoadingText s) same is)
@@ -221,11 +201,8 @@ check_missing files refusal.NoStart answer missing says other = absurd missing
 check_missing files (refusal.NoStep node slot) answer missing says other = absurd missing
 
 pub only_missing : (command : Command) (told : Option Files) (files : Files) (e : Refusal) (answer : Answer) → told ≡ Some files → IsMissing e → Answers command (Some files) (Err e) → Answers command told answer → answer ≡ Err e
-only_missing ask.Load told files e answer is missing none says = report_missing IsReport files e answer missing none (subst (λ o. Answers ask.Load o answer) is says)
-only_missing ask.Delay told files e answer is missing none says = report_missing IsDelayReport files e answer missing none (subst (λ o. Answers ask.Delay o answer) is says)
-only_missing ask.Gap told files e answer is missing none says = report_missing IsGapReport files e answer missing none (subst (λ o. Answers ask.Gap o answer) is says)
-only_missing ask.Routes told files e answer is missing none says = routes_missing lines.Splits files e answer missing none.0 (subst (λ o. Answers ask.Routes o answer) is says).0
-only_missing ask.RouteTimes told files e answer is missing none says = routes_missing lines.Times files e answer missing none.0 (subst (λ o. Answers ask.RouteTimes o answer) is says).0
+only_missing (ask.Report report) told files e answer is missing none says = report_missing (Reports report) files e answer missing none (subst (λ o. Answers (ask.Report report) o answer) is says)
+only_missing (ask.Routes which) told files e answer is missing none says = routes_missing which files e answer missing none.0 (subst (λ o. Answers (ask.Routes which) o answer) is says).0
 only_missing (ask.Try start nodes) told files e answer is missing (text, trial, same) says = absurd (cc)
 only_missing ask.Curves told files e answer is missing none says = curves_missing files e answer missing none (subst (λ o. Answers ask.Curves o answer) is says)
 only_missing ask.Check told files e answer is missing none says = check_missing files e answer missing none (subst (λ o. Answers ask.Check o answer) is says)

@@ -13,6 +13,8 @@ use Rattle.ltm_routes_command.specs.Routing.{AnswersRoutes}
 use Rattle.ltm_routes_command.specs.File.{IsSplitsFile, IsTimesFile}
 use Rattle.ltm_command.specs.declared.words.Command.{Command}
 use Rattle.ltm_command.specs.declared.words.Command.TheVariants as command
+use Rattle.ltm_command.specs.declared.words.Report.{Report}
+use Rattle.ltm_command.specs.declared.words.Report.TheVariants as report
 use Rattle.ltm_try_command.specs.Trial.{IsTrial}
 use Rattle.ltm_check_command.specs.declared.refusal.Refusal.{Refusal}
 use Rattle.ltm_check_command.specs.declared.refusal.Refusal.TheVariants as refusal
@@ -35,6 +37,12 @@ answer_of (Err fault) = Err (refusal.Case fault)
 abbrev pub Describes : Option Files → Result ScenarioData CaseFault → Type 0
 Describes told said = IfSome told (λ files. case_of files ≡ said)
 
+-- a text reports this of a case
+abbrev pub Reports : Report → ScenarioData → List ℕ → Type 0
+Reports report.Load = IsReport
+Reports report.Delay = IsDelayReport
+Reports report.Gap = IsGapReport
+
 -- what is answered to a case by a report of it
 abbrev pub CaseAnswer : (ScenarioData → List ℕ → Type 0) → Result ScenarioData CaseFault → Answer → Type 0
 CaseAnswer Reports (Ok s) answer = (text : List ℕ) × Reports s text × (answer ≡ Ok text)
@@ -43,6 +51,11 @@ CaseAnswer Reports (Err fault) answer = answer ≡ Err (refusal.Case fault)
 -- the same of the case that a folder tells
 abbrev pub ReportAnswer : (ScenarioData → List ℕ → Type 0) → Option Files → Answer → Type 0
 ReportAnswer Reports told answer = (said : Result ScenarioData CaseFault) × Describes told said × CaseAnswer Reports said answer
+
+-- a text is the file of routes
+abbrev pub IsRoutesFile : RouteLines → Option Files → List ℕ → Type 0
+IsRoutesFile lines.Splits = IsSplitsFile
+IsRoutesFile lines.Times = IsTimesFile
 
 -- what `routes` answers
 abbrev pub RouteAnswer : RouteLines → Option Files → Answer → Type 0
@@ -54,11 +67,8 @@ CurvesAnswer told answer = (said : Result (List ℕ) CaseFault) × AnswersCurves
 
 -- what a command answers to what a folder tells of its files; those that are served make no such answer
 abbrev pub Answers : Command → Option Files → Answer → Type 0
-Answers command.Load told answer = ReportAnswer IsReport told answer
-Answers command.Delay told answer = ReportAnswer IsDelayReport told answer
-Answers command.Gap told answer = ReportAnswer IsGapReport told answer
-Answers command.Routes told answer = RouteAnswer lines.Splits told answer × IfOk answer (IsSplitsFile told)
-Answers command.RouteTimes told answer = RouteAnswer lines.Times told answer × IfOk answer (IsTimesFile told)
+Answers (command.Report report) told answer = ReportAnswer (Reports report) told answer
+Answers (command.Routes which) told answer = RouteAnswer which told answer × IfOk answer (IsRoutesFile which told)
 Answers (command.Try start nodes) told answer = (text : List ℕ) × IsTrial start nodes text × (answer ≡ Ok text)
 Answers command.Curves told answer = CurvesAnswer told answer
 Answers command.Check told answer = AnswersCheck told answer
@@ -87,22 +97,16 @@ HasText c = Unit {0}
 -- ---- files
 -- the files that a command may fetch
 abbrev pub may_fetch : Command → Doc → Bool
-may_fetch command.Load d = is_case_file d
-may_fetch command.Delay d = is_case_file d
-may_fetch command.Gap d = is_case_file d
-may_fetch command.Routes d = is_of_roads d
-may_fetch command.RouteTimes d = is_of_roads d
+may_fetch (command.Report report) d = is_case_file d
+may_fetch (command.Routes which) d = is_of_roads d
 may_fetch command.Curves d = is_case_file d
 may_fetch command.Check d = is_check_file d
 may_fetch c d = false
 
 -- the files that it fetches from a folder with these files
 abbrev pub fetches : Command → Files → Doc → Bool
-fetches command.Load files d = asks_for files d
-fetches command.Delay files d = asks_for files d
-fetches command.Gap files d = asks_for files d
-fetches command.Routes files d = is_of_roads d
-fetches command.RouteTimes files d = is_of_roads d
+fetches (command.Report report) files d = asks_for files d
+fetches (command.Routes which) files d = is_of_roads d
 fetches command.Curves files d = asks_for files d
 fetches command.Check files d = check_asks_for files d
 fetches c files d = false

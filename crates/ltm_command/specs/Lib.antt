@@ -5,3 +5,4 @@ pub mod Program
 pub mod Run
 pub use Rattle.ltm_routes_command.specs.File
 pub use Rattle.ltm_try_command.specs.Trial
+pub use Rattle.ltm_routes_command.specs.declared.lines.RouteLines

@@ -12,6 +12,8 @@ use Rattle.ltm_check_command.specs.Lines.{bad_curves_line, no_start_line, no_ste
 use Rattle.ltm_command.specs.declared.status.Status.{Status}
 use Rattle.ltm_command.specs.declared.status.Status.TheVariants as ending
 use Rattle.ltm_command.specs.declared.words.Command.{Command}
+use Rattle.ltm_command.specs.declared.words.Command.TheVariants as command
+use Rattle.ltm_command.specs.declared.words.Report.TheVariants as report
 use Rattle.ltm_command.specs.Answers.{Answer, Answers, may_fetch, fetches}
 
 -- the line that refuses a case, and nothing where a file is missing
@@ -115,6 +117,10 @@ IsWhole ending.BadScript = Unit {0}
 -- a command may fetch the file: one of its own, and where the folder tells its files one that it asks them for
 abbrev pub Fetches : Command → Option Files → Doc → Type 0
 Fetches command told d = (may_fetch command d ≡ true) × IfSome told (λ files. fetches command files d ≡ true)
+
+-- a file of the case
+abbrev pub FetchesCase : Option Files → Doc → Type 0
+FetchesCase = Fetches (command.Report report.Load)
 
 -- the count of faults rose of a file that the command may fetch and that it fetches from this folder, where that is told
 abbrev pub FileFailed : Command → Option Files → (Doc → ℕ) → (Doc → ℕ) → Type 0

@@ -2,9 +2,11 @@
 use Rattle.std.specs.Prelude.{ℕ, ◌≡◌, ◌↔◌, ◌≤◌, if◌then◌else◌, List, [], ◌∷◌, Option, None, Some, option_map, codes}
 use Rattle.std.specs.Str.{bytes_eq}
 use Rattle.ltm_units.specs.Numbers.{number_told}
+use Rattle.ltm_routes_command.specs.declared.lines.RouteLines.TheVariants as lines
 use Rattle.ltm_try_command.specs.Words.{start_of, nodes_of, if_at_least}
 use Rattle.ltm_command.specs.declared.words.Command.{Command}
 use Rattle.ltm_command.specs.declared.words.Command.TheVariants as command
+use Rattle.ltm_command.specs.declared.words.Report.TheVariants as report
 
 -- the number that a word names, of so few digits, from the least to the most
 abbrev pub number_of : ℕ → ℕ → ℕ → List ℕ → Option ℕ
@@ -22,13 +24,13 @@ editors_of = number_of 1 1 8
 
 -- the words ask for the command
 abbrev pub Asks : List (List ℕ) → Command → Type 0
-Asks words command.Load = words ≡ codes "load" ∷ []
-Asks words command.Delay = words ≡ codes "delay" ∷ []
-Asks words command.Gap = words ≡ codes "gap" ∷ []
+Asks words (command.Report report.Load) = words ≡ codes "load" ∷ []
+Asks words (command.Report report.Delay) = words ≡ codes "delay" ∷ []
+Asks words (command.Report report.Gap) = words ≡ codes "gap" ∷ []
 Asks words command.Curves = words ≡ codes "curves" ∷ []
 Asks words command.Check = words ≡ codes "check" ∷ []
-Asks words command.Routes = words ≡ codes "routes" ∷ []
-Asks words command.RouteTimes = words ≡ codes "routes" ∷ codes "times" ∷ []
+Asks words (command.Routes lines.Splits) = words ≡ codes "routes" ∷ []
+Asks words (command.Routes lines.Times) = words ≡ codes "routes" ∷ codes "times" ∷ []
 Asks words (command.Try start nodes) = (first second : List ℕ) × (words ≡ codes "try" ∷ first ∷ second ∷ []) × (start_of first ≡ Some start) × (nodes_of second ≡ Some nodes)
 Asks words (command.Session workers) = (number : List ℕ) × (words ≡ codes "session" ∷ number ∷ []) × (workers_of number ≡ Some workers)
 Asks words (command.View viewers) = (number : List ℕ) × (words ≡ codes "view" ∷ number ∷ []) × (viewers_of number ≡ Some viewers)
@@ -49,16 +51,16 @@ when word text this other = if bytes_eq word text then this else other
 
 abbrev pub one_word : List ℕ → Option Command
 one_word word =
-    when word (codes "load") (Some command.Load)
-    (when word (codes "delay") (Some command.Delay)
-    (when word (codes "gap") (Some command.Gap)
+    when word (codes "load") (Some (command.Report report.Load))
+    (when word (codes "delay") (Some (command.Report report.Delay))
+    (when word (codes "gap") (Some (command.Report report.Gap))
     (when word (codes "curves") (Some command.Curves)
     (when word (codes "check") (Some command.Check)
-    (when word (codes "routes") (Some command.Routes) None)))))
+    (when word (codes "routes") (Some (command.Routes lines.Splits)) None)))))
 
 abbrev pub two_words : List ℕ → List ℕ → Option Command
 two_words word second =
-    when word (codes "routes") (when second (codes "times") (Some command.RouteTimes) None)
+    when word (codes "routes") (when second (codes "times") (Some (command.Routes lines.Times)) None)
     (when word (codes "session") (option_map command.Session (workers_of second))
     (when word (codes "view") (option_map command.View (viewers_of second))
     (when word (codes "editors") (option_map command.Editors (editors_of second)) None)))

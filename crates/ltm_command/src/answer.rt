@@ -13,9 +13,7 @@ ghost use Rattle.ltm_command.specs.Program.{FileFailed, IsMissing};
 ghost use Rattle.ltm_check_command.specs.declared.refusal.Refusal.{Refusal};
 ghost use Rattle.ltm_check_command.specs.Checks.{is_check_file, check_asks_for};
 
-use crate::delay::delay_case;
-use crate::gap::gap_case;
-use crate::load::report_case;
+use crate::report::report_case;
 use crate::words::Command;
 use ltm_casefile::CaseFault;
 use ltm_check_command::{Refusal, check_text};
@@ -25,38 +23,21 @@ use ltm_routes_command::{RouteLines, route_text};
 use ltm_try_command::try_report;
 use std::alloc::Global;
 
-/// The `splits.csv` of least routes over the folder's roads, or why there is none.
-#[tactic(auto, using(crate::proofs::MissingFile::routes_failed, crate::proofs::Answering::routes_told, crate::proofs::Answering::routes_fault))]
-fn route_splits<F: Folder>(alloc: Global, folder: &mut F) -> Result<Vec<u8>, CaseFault>
+/// The lines of least routes over the folder's roads, or why there are none.
+#[tactic(auto, using(crate::proofs::MissingFile::routes_failed, crate::proofs::Answering::routes_fault))]
+fn routes<F: Folder>(alloc: Global, lines: RouteLines, folder: &mut F) -> Result<Vec<u8>, CaseFault>
     ensures keeps { F.told folder.new ≡ F.told folder.old }
     ensures others { (d : Doc) → is_of_roads d ≡ false
         → F.faults folder.new d ≡ F.faults folder.old d }
-    ensures text { IfOk result (λ text. Answers Command.Routes (F.told folder.old)
+    ensures text { IfOk result (λ text. Answers (Command.Routes lines) (F.told folder.old)
         (Ok text.items)) }
-    ensures fault { IfErr result (λ e. AnswersFault Command.Routes (F.told folder.old)
+    ensures fault { IfErr result (λ e. AnswersFault (Command.Routes lines) (F.told folder.old)
         (Refusal.Case e)) }
     ensures failed { (file : File) → result ≡ Err (CaseFault.Folder file)
-        → FileFailed Command.Routes (F.told folder.old) (F.faults folder.old)
+        → FileFailed (Command.Routes lines) (F.told folder.old) (F.faults folder.old)
         (F.faults folder.new) }
 {
-    route_text(alloc, RouteLines::Splits, folder)
-}
-
-/// The least times over the folder's roads, or why there are none.
-#[tactic(auto, using(crate::proofs::MissingFile::times_failed, crate::proofs::Answering::times_told, crate::proofs::Answering::times_fault))]
-fn route_times<F: Folder>(alloc: Global, folder: &mut F) -> Result<Vec<u8>, CaseFault>
-    ensures keeps { F.told folder.new ≡ F.told folder.old }
-    ensures others { (d : Doc) → is_of_roads d ≡ false
-        → F.faults folder.new d ≡ F.faults folder.old d }
-    ensures text { IfOk result (λ text. Answers Command.RouteTimes (F.told folder.old)
-        (Ok text.items)) }
-    ensures fault { IfErr result (λ e. AnswersFault Command.RouteTimes (F.told folder.old)
-        (Refusal.Case e)) }
-    ensures failed { (file : File) → result ≡ Err (CaseFault.Folder file)
-        → FileFailed Command.RouteTimes (F.told folder.old) (F.faults folder.old)
-        (F.faults folder.new) }
-{
-    route_text(alloc, RouteLines::Times, folder)
+    route_text(alloc, lines, folder)
 }
 
 /// The report of a trial, or that there is none for want of memory.
@@ -110,11 +91,8 @@ fn case_answer<F: Folder>(
         → FileFailed command (F.told folder.old) (F.faults folder.old) (F.faults folder.new) }
 {
     match command {
-        Command::Load => report_case(alloc, folder),
-        Command::Delay => delay_case(alloc, folder),
-        Command::Gap => gap_case(alloc, folder),
-        Command::Routes => route_splits(alloc, folder),
-        Command::RouteTimes => route_times(alloc, folder),
+        Command::Report(report) => report_case(alloc, report, folder),
+        Command::Routes(lines) => routes(alloc, lines, folder),
         Command::Try { start, nodes } => trial(alloc, start, nodes),
         Command::Curves => unreachable!(),
         Command::Check => unreachable!(),

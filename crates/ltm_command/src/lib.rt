@@ -7,18 +7,16 @@
 //! - **What a call costs**: a cold loading, the routes to each destination, a trial, or a check; and the memory of the text,
 //!   of `curves` that of a piece.
 //! - **When to change it here**: when the words of the command line or the exit statuses change.
-//!   A new command gets a variant of `Command` and its words (`words.rt`, `specs/Words.antt`); one with a text of its own also
-//!   what it answers and fetches (`specs/Answers.antt`), a file that makes the text, and an arm of `case_answer`; `texts.rt`
-//!   stays as it is. A command that is served stands in `ltm_program`.
+//!   A new command gets a variant of `Command`, or of `Report`, and its words (`words.rt`, `specs/Words.antt`); one with a text of
+//!   its own also what it answers and fetches (`specs/Answers.antt`), a call that makes the text, and an arm of `case_answer`;
+//!   `texts.rt` stays as it is. A command that is served stands in `ltm_program`.
 #![tactic(auto)]
 
 mod answer;
 mod closing;
 mod curves;
-mod delay;
-mod gap;
-mod load;
 mod refusing;
+mod report;
 mod status;
 mod texts;
 mod words;
@@ -27,4 +25,4 @@ pub use closing::{refuse_case, refuse_length, write_text};
 pub use refusing::refuse_fault;
 pub use status::Status;
 pub use texts::run_command;
-pub use words::{Command, command_of, one_reading, usage_text};
+pub use words::{Command, Report, command_of, one_reading, usage_text};

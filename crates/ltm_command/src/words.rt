@@ -1,30 +1,37 @@
 //! The words of the command line.
 ghost use Rattle.std.specs.Prelude.{◌≡◌, ◌≤◌, ◌<◌, ℕ, List, map, string_bytes, option_map, codes, IfSome, Some, None};
+ghost use Rattle.ltm_routes_command.specs.declared.lines.RouteLines.{RouteLines};
 ghost use Rattle.ltm_try_command.specs.Words.{start_of, nodes_of};
 ghost use Rattle.ltm_command.specs.declared.words.Command.{Command};
 ghost use Rattle.ltm_command.specs.Words as says;
 ghost use Rattle.ltm_command.specs.Words.{IsSized, OneReading, usage_line};
 
+use ltm_routes_command::RouteLines;
 use ltm_try_command::{read_nodes, read_start};
 use ltm_units::read_number;
+
+/// What is told of a case's loading.
+#[derive(Clone, Copy)]
+pub enum Report {
+    /// What entered and left: in all, and by link.
+    Load,
+    /// What is spent, queued and waited: in all, by link and by origin.
+    Delay,
+    /// What those who travel spend, against the least that they could have: in all, and by destination.
+    Gap,
+}
 
 /// All that the program can be asked for.
 #[derive(Clone, Copy)]
 pub enum Command {
-    /// The report of the case's loading.
-    Load,
-    /// What is spent, queued and waited in the case's loading: in all, by link and by origin.
-    Delay,
-    /// What those who travel spend, against the least that they could have: in all, and by destination.
-    Gap,
+    /// A report of the case's loading.
+    Report(Report),
     /// The loading of the case as a curve file.
     Curves,
     /// Whether the curve file beside the case is its loading.
     Check,
-    /// A whole `splits.csv` of least free-flow routes, for the roads and the demand of the case.
-    Routes,
-    /// The least free-flow times that these routes take.
-    RouteTimes,
+    /// Least free-flow routes for the roads and the demand of the case: a whole `splits.csv`, or the times that they take.
+    Routes(RouteLines),
     /// A trial of a made case: where its words start, and how many nodes it has.
     Try { start: u64, nodes: u32 },
     /// The script of the input, served beside so many workers.
@@ -78,13 +85,13 @@ fn one_word(word: &str) -> Option<Command>
     ensures { result ≡ says.one_word word.now }
 {
     if word == "load" {
-        return Some(Command::Load);
+        return Some(Command::Report(Report::Load));
     }
     if word == "delay" {
-        return Some(Command::Delay);
+        return Some(Command::Report(Report::Delay));
     }
     if word == "gap" {
-        return Some(Command::Gap);
+        return Some(Command::Report(Report::Gap));
     }
     if word == "curves" {
         return Some(Command::Curves);
@@ -93,16 +100,16 @@ fn one_word(word: &str) -> Option<Command>
         return Some(Command::Check);
     }
     if word == "routes" {
-        return Some(Command::Routes);
+        return Some(Command::Routes(RouteLines::Splits));
     }
     None
 }
 
 fn routes(word: &str) -> Option<Command>
-    ensures { result ≡ says.when word.now (codes "times") (Some Command.RouteTimes) None }
+    ensures { result ≡ says.when word.now (codes "times") (Some (Command.Routes RouteLines.Times)) None }
 {
     if word == "times" {
-        return Some(Command::RouteTimes);
+        return Some(Command::Routes(RouteLines::Times));
     }
     None
 }

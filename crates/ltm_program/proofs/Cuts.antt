@@ -14,8 +14,8 @@ use Rattle.ltm_command.specs.declared.status.Status.TheVariants as ending
 use Rattle.ltm_command.specs.Answers.{Describes}
 use Rattle.ltm_command.specs.Run.{Outside}
 use Rattle.ltm_command.proofs.Told.{never_read}
-use Rattle.ltm_program.specs.Sessions.{IsSessionUnder, ServesWhatCame, status_of_end, closing_of}
-use Rattle.ltm_program.specs.Views.{IsViewUnder}
+use Rattle.ltm_program.specs.Sessions.{IsServed, IsServedUnder, ServesWhatCame, status_of_end, closing_of}
+use Rattle.ltm_program.specs.Views.{IsViewed}
 use Rattle.ltm_program.specs.RanLaws.{Wrote}
 
 cut : (e : SessionEnd) → ending.ReadFault ≡ status_of_end e → e ≡ end.ReadFault
@@ -35,7 +35,7 @@ what_came : (answers : Answering) (s : ScenarioData) (script left old new : Opti
 what_came answers s None left old new e output m is so wrote = tt
 what_came answers s (Some script) left old new e output m is so wrote = (so.answered, output, m, so.came is, so.runs, wrote)
 
-pub session_came : (answers : Answering) (b a : Outside) (t : List ℕ) → IsSessionUnder answers b a ending.ReadFault t → Wrote t b a
+pub session_came : (answers : Answering) (b a : Outside) (t : List ℕ) → IsServedUnder (IsServed answers) b a ending.ReadFault t → Wrote t b a
     → (s : ScenarioData) × Describes b.told (Ok s) × ServesWhatCame answers s b.left a.left b.written a.written
 session_came answers b a t (inl (f, describes, is, at, unread)) wrote = absurd (never_read (refusal.Case f) is)
 session_came answers b a t (inr (s, describes, (e, output, (m, so), is, at))) wrote =
@@ -59,7 +59,7 @@ viewed n s script left old new e output m is so wrote =
     let answered : output ≡ so.answers = so.output_is ∙ ap (λ l. so.answers ++ l) none ∙ append-nil so.answers in
     what_came AnswersAlone s script left old new so.session_end so.answers m session so.session (wrote ∙ ap (λ x. appended x old) answered)
 
-pub view_came : (n : ℕ) (b a : Outside) (t : List ℕ) → IsViewUnder n b a ending.ReadFault t → Wrote t b a
+pub view_came : (n : ℕ) (b a : Outside) (t : List ℕ) → IsServedUnder (IsViewed n) b a ending.ReadFault t → Wrote t b a
     → (s : ScenarioData) × Describes b.told (Ok s) × ServesWhatCame AnswersAlone s b.left a.left b.written a.written
 view_came n b a t (inl (f, describes, is, at, unread)) wrote = absurd (never_read (refusal.Case f) is)
 view_came n b a t (inr (s, describes, (e, output, (m, so), is, at))) wrote =

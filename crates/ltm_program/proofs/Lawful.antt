@@ -27,14 +27,16 @@ use Rattle.ltm_command.specs.declared.status.Status.{Status}
 use Rattle.ltm_command.specs.declared.status.Status.TheVariants as ending
 use Rattle.ltm_command.specs.declared.words.Command.{Command}
 use Rattle.ltm_command.specs.declared.words.Command.TheVariants as command
+use Rattle.ltm_command.specs.declared.words.Report.TheVariants as report
+use Rattle.ltm_command.specs.RouteLines.TheVariants as lines
 use Rattle.ltm_command.specs.Answers.{Answer, Answers, Describes, HasText, may_fetch, fetches}
 use Rattle.ltm_command.specs.Program.{IsAnswerUnder, IsWhole, IsCalm, Fetches, status_of, case_status, words_of}
 use Rattle.ltm_command.specs.Words.{usage_line}
 use Rattle.ltm_command.specs.Run.{Outside, LeavesInput, WritesFront, IsRun}
 use Rattle.ltm_command.proofs.Running.{sorted}
 use Rattle.ltm_command.proofs.Told as texts
-use Rattle.ltm_program.specs.Sessions.{IsCaseUnder, IsServed, IsSessionUnder, ServesWhole, status_of_end, session_status, closing_of}
-use Rattle.ltm_program.specs.Views.{IsViewed, IsViewUnder}
+use Rattle.ltm_program.specs.Sessions.{IsCaseUnder, IsServed, IsServedUnder, ServesWhole, status_of_end, session_status, closing_of}
+use Rattle.ltm_program.specs.Views.{IsViewed}
 use Rattle.ltm_program.specs.Editors.{IsEditingUnder, IsCalmFor, editing_status, editing_words}
 use Rattle.ltm_program.specs.Ran.{IsTextUnder, rule_of, Ran}
 use Rattle.ltm_program.specs.RanLaws.{TextsSay, SessionsSay, EditorsSay, RefusalsSay, FilesStay, Wrote, IsQuiet, HeardAll, TellsMissing}
@@ -83,14 +85,14 @@ completes c b a status files has r told calm quiet =
 
 pub texts_say_holds : TextsSay
 texts_say_holds = record {
-  load = λ b a r. let h = r.whole tt in let l = texts.loaded b.told h.0 h.1 in (l.0, h.0, l.1, l.2, h.2);
-  delay = λ b a r. let h = r.whole tt in let l = texts.delayed b.told h.0 h.1 in (l.0, h.0, l.1, l.2, h.2);
-  gap = λ b a r. let h = r.whole tt in let l = texts.gapped b.told h.0 h.1 in (l.0, h.0, l.1, l.2, h.2);
+  load = λ b a r. let h = r.whole tt in let l = texts.reported report.Load b.told h.0 h.1 in (l.0, h.0, l.1, l.2, h.2);
+  delay = λ b a r. let h = r.whole tt in let l = texts.reported report.Delay b.told h.0 h.1 in (l.0, h.0, l.1, l.2, h.2);
+  gap = λ b a r. let h = r.whole tt in let l = texts.reported report.Gap b.told h.0 h.1 in (l.0, h.0, l.1, l.2, h.2);
   curves = λ b a r. let h = r.whole tt in let l = texts.curves_loaded b.told h.0 h.1 in (l.0, h.0, l.1, l.2, h.2);
   check = λ b a r. let h = r.whole tt in let l = texts.checked_yes b.told h.0 h.1 in (l.0, l.1, l.2, l.3, wrote_as b a h.0 _ h.2 l.4);
   check_complete = λ b a status files s bytes r told has few tells calm quiet. texts.says_yes files s bytes status has few tells (completes command.Check b a status files tt r told calm quiet);
-  routes = λ b a r. let h = r.whole tt in (h.0, texts.routed b.told h.0 h.1, h.2);
-  times = λ b a r. let h = r.whole tt in (h.0, texts.timed b.told h.0 h.1, h.2);
+  routes = λ b a r. let h = r.whole tt in (h.0, texts.routed lines.Splits b.told h.0 h.1, h.2);
+  times = λ b a r. let h = r.whole tt in (h.0, texts.routed lines.Times b.told h.0 h.1, h.2);
   trial = λ b a start nodes r. let h = r.whole tt in (h.0, texts.tried start nodes b.told h.0 h.1, h.2);
 }
 
@@ -114,7 +116,7 @@ session_serves answers s b a e output t m is so at wrote read =
     let now : a.written ≡ appended output b.written = wrote_as b a t output wrote whole in
     ended_whole s b.left a.left b.written a.written end.Ended output m refl ended_so now (read_to_end b.left a.left end.Ended read)
 
-serves : (answers : Answering) (b a : Outside) (t : List ℕ) → IsSessionUnder answers b a ending.Ok t → Wrote t b a → IfSome b.left (λ x. a.left ≡ Some [])
+serves : (answers : Answering) (b a : Outside) (t : List ℕ) → IsServedUnder (IsServed answers) b a ending.Ok t → Wrote t b a → IfSome b.left (λ x. a.left ≡ Some [])
     → (s : ScenarioData) × Describes b.told (Ok s) × ServesWhole (IsOutputBy answers) s b.left a.left b.written a.written
 serves answers b a t (inl (f, describes, is, at, unread)) wrote read = absurd (texts.never_ok (refusal.Case f) is)
 serves answers b a t (inr (s, describes, (e, output, (m, so), is, at))) wrote read = (s, describes, session_serves answers s b a e output t m (ended e is) so at wrote read)
@@ -128,7 +130,7 @@ by_rule : (n : ℕ) (s : ScenarioData) (script left old new : Option (List ℕ))
 by_rule zero s script left old new law served = serves_alone s script left old new law served
 by_rule (suc n) s script left old new law served = served
 
-views : (n : ℕ) (b a : Outside) (t : List ℕ) → IsViewUnder n b a ending.Ok t → Wrote t b a → IfSome b.left (λ x. a.left ≡ Some [])
+views : (n : ℕ) (b a : Outside) (t : List ℕ) → IsServedUnder (IsViewed n) b a ending.Ok t → Wrote t b a → IfSome b.left (λ x. a.left ≡ Some [])
     → (s : ScenarioData) × Describes b.told (Ok s) × ServesWhole (IsViewOutput n) s b.left a.left b.written a.written
 views n b a t (inl (f, describes, is, at, unread)) wrote read = absurd (texts.never_ok (refusal.Case f) is)
 views n b a t (inr (s, describes, (e, output, (m, so), is, at))) wrote read =
@@ -178,17 +180,17 @@ module _ (told : Option Files) (left after : Option (List ℕ)) (files : Files) 
       (not_end e end.WriteFault status is (no_write status whole)) (no_write status whole) (inl is))
 
 session_completes : (b a : Outside) (status : Status) (files : Files) (script : List ℕ) (n : ℕ) → Ran (Some (command.Session n)) status b a → b.told ≡ Some files → b.left ≡ Some script
-    → IsCalm command.Load files b.faults a.faults → HeardAll b a → IsQuiet b a → (status ≡ session_status (case_of files) script) ⊎ (status ≡ ending.NoMemory)
+    → IsCalm (command.Report report.Load) files b.faults a.faults → HeardAll b a → IsQuiet b a → (status ≡ session_status (case_of files) script) ⊎ (status ≡ ending.NoMemory)
 session_completes b a status files script n r told left calm heard quiet =
-    elim (sorted status (λ is. texts.failed_in_calm command.Load b.told files b.faults a.faults told calm (r.faults.0 is).0) (λ is. quiet (r.faults.2 is))) [
+    elim (sorted status (λ is. texts.failed_in_calm (command.Report report.Load) b.told files b.faults a.faults told calm (r.faults.0 is).0) (λ is. quiet (r.faults.2 is))) [
       | inl whole ↦ let h = r.whole whole in session_ends b.told b.left a.left files script status h.0 told left whole (λ is. heard (r.faults.1 is).1) (LeavesInput b a) (rule_of n) h.1
       | inr none ↦ inr none
     ]
 
 view_completes : (b a : Outside) (status : Status) (files : Files) (script : List ℕ) (n : ℕ) → Ran (Some (command.View n)) status b a → b.told ≡ Some files → b.left ≡ Some script
-    → IsCalm command.Load files b.faults a.faults → HeardAll b a → IsQuiet b a → (status ≡ session_status (case_of files) script) ⊎ (status ≡ ending.NoMemory)
+    → IsCalm (command.Report report.Load) files b.faults a.faults → HeardAll b a → IsQuiet b a → (status ≡ session_status (case_of files) script) ⊎ (status ≡ ending.NoMemory)
 view_completes b a status files script n r told left calm heard quiet =
-    elim (sorted status (λ is. texts.failed_in_calm command.Load b.told files b.faults a.faults told calm (r.faults.0 is).0) (λ is. quiet (r.faults.2 is))) [
+    elim (sorted status (λ is. texts.failed_in_calm (command.Report report.Load) b.told files b.faults a.faults told calm (r.faults.0 is).0) (λ is. quiet (r.faults.2 is))) [
       | inl whole ↦ let h = r.whole whole in view_ends b.told b.left a.left files script status h.0 told left whole (λ is. heard (r.faults.1 is).1) (LeavesInput b a) n h.1
       | inr none ↦ inr none
     ]

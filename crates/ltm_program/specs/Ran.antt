@@ -10,10 +10,10 @@ use Rattle.ltm_command.specs.declared.status.Status.TheVariants as ending
 use Rattle.ltm_command.specs.declared.words.Command.{Command}
 use Rattle.ltm_command.specs.declared.words.Command.TheVariants as command
 use Rattle.ltm_command.specs.Words.{usage_line}
-use Rattle.ltm_command.specs.Program.{IsAnswerUnder, Fetches}
+use Rattle.ltm_command.specs.Program.{IsAnswerUnder, Fetches, FetchesCase}
 use Rattle.ltm_command.specs.Run.{Outside, IsRun}
-use Rattle.ltm_program.specs.Sessions.{IsSessionUnder}
-use Rattle.ltm_program.specs.Views.{IsViewUnder}
+use Rattle.ltm_program.specs.Sessions.{IsServed, IsServedUnder}
+use Rattle.ltm_program.specs.Views.{IsViewed}
 use Rattle.ltm_program.specs.Editors.{IsEditingUnder}
 
 -- the rule of answers of a session with so many workers
@@ -24,16 +24,16 @@ rule_of (suc workers) = AnswersBeside
 -- the whole text that belongs to a command and a status, by how the outside stands before and after
 abbrev pub IsTextUnder : Option Command → Outside → Outside → Status → List ℕ → Type 0
 IsTextUnder None b a status t = (status ≡ ending.Usage) × (t ≡ usage_line)
-IsTextUnder (Some (command.Session workers)) b a status t = IsSessionUnder (rule_of workers) b a status t
-IsTextUnder (Some (command.View viewers)) b a status t = IsViewUnder viewers b a status t
+IsTextUnder (Some (command.Session workers)) b a status t = IsServedUnder (IsServed (rule_of workers)) b a status t
+IsTextUnder (Some (command.View viewers)) b a status t = IsServedUnder (IsViewed viewers) b a status t
 IsTextUnder (Some (command.Editors editors)) b a status t = IsEditingUnder editors b.told status t
 IsTextUnder (Some c) b a status t = IsAnswerUnder c b.told status t
 
 -- a command may fetch the file
 abbrev pub MayFetch : Option Command → Option Files → Doc → Type 0
 MayFetch None told d = ⊥
-MayFetch (Some (command.Session workers)) told d = Fetches command.Load told d
-MayFetch (Some (command.View viewers)) told d = Fetches command.Load told d
+MayFetch (Some (command.Session workers)) told d = FetchesCase told d
+MayFetch (Some (command.View viewers)) told d = FetchesCase told d
 MayFetch (Some (command.Editors editors)) told d = MayAsk told editors d
 MayFetch (Some c) told d = Fetches c told d
 

@@ -40,6 +40,8 @@ use Rattle.ltm_command.specs.declared.status.Status.{Status}
 use Rattle.ltm_command.specs.declared.status.Status.TheVariants as ending
 use Rattle.ltm_command.specs.declared.words.Command.{Command}
 use Rattle.ltm_command.specs.declared.words.Command.TheVariants as command
+use Rattle.ltm_command.specs.declared.words.Report.TheVariants as report
+use Rattle.ltm_command.specs.RouteLines.TheVariants as lines
 use Rattle.ltm_command.specs.Words.{usage_line}
 use Rattle.ltm_command.specs.Answers.{Answer, Answers, Describes, HasText, may_fetch, fetches}
 use Rattle.ltm_command.specs.Program.{IsMissing, IsLong, IsWhole, IsCalm, status_of, words_of}
@@ -69,11 +71,11 @@ Stays b a d = a.faults d ≡ b.faults d
 
 -- ---- commands that answer one text
 pub record TextsSay : Type 0 where
-  pub load : (b a : Outside) → Ran (Some command.Load) ending.Ok b a
+  pub load : (b a : Outside) → Ran (Some (command.Report report.Load)) ending.Ok b a
       → (s : ScenarioData) × (t : List ℕ) × Describes b.told (Ok s) × IsReport s t × Wrote t b a
-  pub delay : (b a : Outside) → Ran (Some command.Delay) ending.Ok b a
+  pub delay : (b a : Outside) → Ran (Some (command.Report report.Delay)) ending.Ok b a
       → (s : ScenarioData) × (t : List ℕ) × Describes b.told (Ok s) × IsDelayReport s t × Wrote t b a
-  pub gap : (b a : Outside) → Ran (Some command.Gap) ending.Ok b a
+  pub gap : (b a : Outside) → Ran (Some (command.Report report.Gap)) ending.Ok b a
       → (s : ScenarioData) × (t : List ℕ) × Describes b.told (Ok s) × IsGapReport s t × Wrote t b a
   pub curves : (b a : Outside) → Ran (Some command.Curves) ending.Ok b a
       → (s : ScenarioData) × (t : List ℕ) × Describes b.told (Ok s) × IsLoadingText s t × Wrote t b a
@@ -87,9 +89,9 @@ pub record TextsSay : Type 0 where
       → TellsLoading s (records_of bytes)
       → IsCalm command.Check files b.faults a.faults → IsQuiet b a → (status ≡ ending.Ok) ⊎ (status ≡ ending.NoMemory)
   pub routes : (b a : Outside)
-      → Ran (Some command.Routes) ending.Ok b a → (t : List ℕ) × IsSplitsFile b.told t × Wrote t b a
+      → Ran (Some (command.Routes lines.Splits)) ending.Ok b a → (t : List ℕ) × IsSplitsFile b.told t × Wrote t b a
   pub times : (b a : Outside)
-      → Ran (Some command.RouteTimes) ending.Ok b a → (t : List ℕ) × IsTimesFile b.told t × Wrote t b a
+      → Ran (Some (command.Routes lines.Times)) ending.Ok b a → (t : List ℕ) × IsTimesFile b.told t × Wrote t b a
   pub trial : (b a : Outside) (start nodes : ℕ) → Ran (Some (command.Try start nodes)) ending.Ok b a
       → (t : List ℕ) × IsTrial start nodes t × Wrote t b a
 
@@ -111,12 +113,12 @@ pub record SessionsSay : Type 0 where
   pub session_complete : (b a : Outside) (status : Status) (files : Files) (script : List ℕ) (n : ℕ)
       → Ran (Some (command.Session n)) status b a
       → b.told ≡ Some files → b.left ≡ Some script
-      → IsCalm command.Load files b.faults a.faults → HeardAll b a → IsQuiet b a
+      → IsCalm (command.Report report.Load) files b.faults a.faults → HeardAll b a → IsQuiet b a
       → (status ≡ session_status (case_of files) script) ⊎ (status ≡ ending.NoMemory)
   pub view_complete : (b a : Outside) (status : Status) (files : Files) (script : List ℕ) (n : ℕ)
       → Ran (Some (command.View n)) status b a
       → b.told ≡ Some files → b.left ≡ Some script
-      → IsCalm command.Load files b.faults a.faults → HeardAll b a → IsQuiet b a
+      → IsCalm (command.Report report.Load) files b.faults a.faults → HeardAll b a → IsQuiet b a
       → (status ≡ session_status (case_of files) script) ⊎ (status ≡ ending.NoMemory)
   -- a missing file is told
   pub session_missing : (b a : Outside) (status : Status) (files : Files) (f : File) (n : ℕ)

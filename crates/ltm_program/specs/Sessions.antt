@@ -45,13 +45,17 @@ IsCaseUnder Unread IsOutput told status text =
     ((fault : CaseFault) × Describes told (Err fault) × (status ≡ case_status fault) × (text ≡ refusal_of fault) × Unread)
     ⊎ ((s : ScenarioData) × Describes told (Ok s) × EndsUnder (IsOutput s) status text)
 
--- the outputs of a session of a scenario, by this rule of answers, with a script, what is left of it, and up to an end
-abbrev pub IsServed : Answering → Option (List ℕ) → Option (List ℕ) → ScenarioData → SessionEnd → List ℕ → Type 0
+-- which outputs may be written: by the script, what is left of it, the scenario, and up to an end
+abbrev pub Outputs : Type 1
+Outputs = Option (List ℕ) → Option (List ℕ) → ScenarioData → SessionEnd → List ℕ → Type 0
+
+-- those of a session by this rule of answers
+abbrev pub IsServed : Answering → Outputs
 IsServed answers script left s end output = (t : Analysts) × IsSession answers (opening_state s 0) script left end output t
 
--- the whole text that belongs to a session and a status
-abbrev pub IsSessionUnder : Answering → Outside → Outside → Status → List ℕ → Type 0
-IsSessionUnder answers b a = IsCaseUnder (LeavesInput b a) (IsServed answers b.left a.left) b.told
+-- the whole text that belongs to a status, by which outputs may be written
+abbrev pub IsServedUnder : Outputs → Outside → Outside → Status → List ℕ → Type 0
+IsServedUnder IsOutput b a = IsCaseUnder (LeavesInput b a) (IsOutput b.left a.left) b.told
 
 -- with which status a session ends where nothing of the outside fails and memory is found
 abbrev pub session_status : Result ScenarioData CaseFault → List ℕ → Status

@@ -1,11 +1,11 @@
 //! The top call without threads: what the words ask for, over a folder, an input and an output.
-ghost use Rattle.std.specs.Prelude.{◌≡◌, ℕ, List, Option, None, Some, IfSome, map, string_bytes, false};
+ghost use Rattle.std.specs.Prelude.{ℕ, List, Option, None, Some, map, string_bytes};
 ghost use Rattle.ltm_io.specs.Folder.{Files};
 ghost use Rattle.ltm_io.specs.declared.doc.Doc.{Doc};
 ghost use Rattle.ltm_command.specs.Words as words_say;
 ghost use Rattle.ltm_command.specs.Words.{IsSized};
 ghost use Rattle.ltm_command.specs.Run.{outside};
-ghost use Rattle.ltm_program.specs.Ran.{Ran, needs_threads, without_threads};
+ghost use Rattle.ltm_program.specs.Ran.{Ran, without_threads};
 
 use crate::serve::serve;
 use ltm_command::{Command, Status, command_of, run_command, usage_text, write_text};
@@ -22,44 +22,7 @@ pub(crate) fn refuse_words<W: Sink>(output: &mut W) -> Status
     write_text(output, usage_text(), Status::Usage)
 }
 
-/// Whether a command starts threads.
-fn starts_threads(command: Command) -> bool
-    ensures { result ≡ needs_threads (Some command) }
-{
-    match command {
-        Command::Session { workers } => workers > 0,
-        Command::View { .. } => true,
-        Command::Editors { .. } => true,
-        Command::Load => false,
-        Command::Delay => false,
-        Command::Gap => false,
-        Command::Curves => false,
-        Command::Check => false,
-        Command::Routes => false,
-        Command::RouteTimes => false,
-        Command::Try { .. } => false,
-    }
-}
-
-/// What is left to do where no thread may be started.
-#[tactic(auto, using(crate::proofs::Runs::left_out, crate::proofs::Runs::left_in))]
-fn alone_of(asked: Option<Command>) -> Option<Command>
-    ensures left { result ≡ without_threads asked }
-    ensures alone { IfSome result (λ command. needs_threads (Some command) ≡ false) }
-    ensures sized { IfSome asked IsSized → IfSome result IsSized }
-{
-    match asked {
-        Some(command) => {
-            if starts_threads(command) {
-                return None;
-            }
-            return Some(command);
-        }
-        None => return None,
-    }
-}
-
-/// Does a command that starts no thread.
+/// Does a command that starts no thread; one that starts any is refused, as words that ask for none.
 fn do_alone<F: OpenFolder, S: Source, W: Sink>(
     alloc: Global,
     command: Command,
@@ -67,18 +30,18 @@ fn do_alone<F: OpenFolder, S: Source, W: Sink>(
     input: &mut S,
     output: &mut W,
 ) -> Status
-    requires sized { IsSized command }
-    requires alone { needs_threads (Some command) ≡ false }
-    ensures { Ran (Some command) result
+    requires { IsSized command }
+    ensures { Ran (without_threads (Some command)) result
         (outside (F.told folder.old) (F.faults folder.old) (S.left input.old) (S.faults input.old)
         (W.written output.old) (W.faults output.old))
         (outside (F.told folder.new) (F.faults folder.new) (S.left input.new) (S.faults input.new)
         (W.written output.new) (W.faults output.new)) }
 {
     match command {
-        Command::Session { workers: _ } => serve(alloc, folder, input, output),
-        Command::View { .. } => unreachable!(),
-        Command::Editors { .. } => unreachable!(),
+        Command::Session { workers: 0 } => serve(alloc, folder, input, output),
+        Command::Session { .. } => refuse_words(output),
+        Command::View { .. } => refuse_words(output),
+        Command::Editors { .. } => refuse_words(output),
         _ => run_command(alloc, command, folder, output),
     }
 }
@@ -114,7 +77,7 @@ pub fn run_alone<F: OpenFolder, S: Source, W: Sink>(
         (outside (F.told folder.new) (F.faults folder.new) (S.left input.new) (S.faults input.new)
         (W.written output.new) (W.faults output.new)) }
 {
-    match alone_of(command_of(words)) {
+    match command_of(words) {
         Some(command) => do_alone(alloc, command, folder, input, output),
         None => refuse_words(output),
     }

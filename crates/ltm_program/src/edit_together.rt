@@ -12,7 +12,7 @@ ghost use Rattle.ltm_command.specs.Run.{outside};
 ghost use Rattle.ltm_program.specs.Editors.{edits_refusal, edits_status, editing_words, editing_status};
 ghost use Rattle.ltm_program.specs.Ran.{Ran};
 
-use crate::serve::close_many;
+use crate::closing::close_many;
 use ltm_command::{Status, refuse_fault, write_text};
 use ltm_io::{Folder, Sink};
 use ltm_session_editors::{

@@ -11,6 +11,7 @@
 #![tactic(auto)]
 
 mod alone;
+mod closing;
 mod edit_together;
 mod laws;
 mod program;

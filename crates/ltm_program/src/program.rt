@@ -1,6 +1,5 @@
 //! The top call of the program: what the words ask for, over a folder, an input and an output.
-ghost use Rattle.std.specs.Prelude.{◌≤◌, Some, map, string_bytes};
-ghost use Rattle.ltm_command.specs.declared.words.Command.{Command};
+ghost use Rattle.std.specs.Prelude.{Some, map, string_bytes};
 ghost use Rattle.ltm_command.specs.Words as words_say;
 ghost use Rattle.ltm_command.specs.Words.{IsSized};
 ghost use Rattle.ltm_command.specs.Run.{outside};
@@ -8,7 +7,6 @@ ghost use Rattle.ltm_program.specs.Ran.{Ran};
 
 use crate::alone::refuse_words;
 use crate::edit_together::edit_together;
-use crate::serve::serve;
 use crate::serve_beside::serve_beside;
 use crate::view::serve_viewed;
 use ltm_command::{Command, Status, command_of, run_command};
@@ -17,29 +15,6 @@ use ltm_workers::Gate;
 use std::alloc::Global;
 use std::sync::Wait;
 use std::thread::Threads;
-
-/// Serves the script of the input beside so many workers, or on one thread where there are none.
-fn serve_session<R: Threads + Wait + Sync, F: Folder, S: Source, W: Sink, G: Gate>(
-    rt: &R,
-    alloc: Global,
-    workers: u32,
-    folder: &mut F,
-    input: &mut S,
-    output: &mut W,
-    gate: &G,
-) -> Status
-    requires { workers ≤ 64 }
-    ensures { Ran (Some (Command.Session workers)) result
-        (outside (F.told folder.old) (F.faults folder.old) (S.left input.old) (S.faults input.old)
-        (W.written output.old) (W.faults output.old))
-        (outside (F.told folder.new) (F.faults folder.new) (S.left input.new) (S.faults input.new)
-        (W.written output.new) (W.faults output.new)) }
-{
-    if workers == 0 {
-        return serve(alloc, folder, input, output);
-    }
-    serve_beside(rt, alloc, workers, folder, input, output, gate)
-}
 
 /// Does a command.
 fn do_command<R: Threads + Wait + Sync, F: OpenFolder, S: Source, W: Sink, G: Gate>(
@@ -59,7 +34,7 @@ fn do_command<R: Threads + Wait + Sync, F: OpenFolder, S: Source, W: Sink, G: Ga
         (W.written output.new) (W.faults output.new)) }
 {
     match command {
-        Command::Session { workers } => serve_session(
+        Command::Session { workers } => serve_beside(
             rt, alloc, workers, folder, input, output, gate,
         ),
         Command::View { viewers } => serve_viewed(rt, alloc, viewers, folder, input, output),

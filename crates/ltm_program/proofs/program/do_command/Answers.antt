@@ -3,7 +3,7 @@ use Rattle.ltm_program.proofs.Runs.{has_text, ran_text, ran_as}
 use Rattle.ltm_program.proofs.program.do_command.Goals as goal
 
 pub returns-in-Session : goal.returns-in-Session
-returns-in-Session g c = ran_as _ _ _ _ _ (ap Some (sym c.in-Session.is)) c.serve_session.ensures
+returns-in-Session g c = ran_as _ _ _ _ _ (ap Some (sym c.in-Session.is)) c.serve_beside.ensures
 
 pub returns-in-View : goal.returns-in-View
 returns-in-View g c = ran_as _ _ _ _ _ (ap Some (sym c.in-View.is)) c.serve_viewed.ensures

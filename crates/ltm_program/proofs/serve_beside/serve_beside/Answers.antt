@@ -1,21 +1,31 @@
 use Rattle.std.proofs.Common.{refl}
-use Rattle.ltm_session.specs.Answers.{AnswersBeside}
 use Rattle.ltm_program.specs.Sessions.{IsServed}
+use Rattle.ltm_program.specs.Ran.{rule_of}
 use Rattle.ltm_command.specs.declared.words.Command.TheVariants as command
+use Rattle.ltm_command.specs.declared.words.Report.TheVariants as report
 use Rattle.ltm_command.specs.Run.{outside}
 use Rattle.ltm_command.proofs.Running.{stays}
-use Rattle.ltm_program.proofs.Cases.{run_case, run_unread}
-use Rattle.ltm_program.proofs.Runs.{ran_beside}
+use Rattle.ltm_program.proofs.Cases.{nothing_accepted, nothing_counted, began_beside, run_case, run_unread}
+use Rattle.ltm_program.proofs.Closings.{run_served}
 use Rattle.ltm_program.proofs.serve_beside.serve_beside.Goals as goal
+
+pub serve-end-requires-clause-fresh : goal.serve-end-requires-clause-fresh
+serve-end-requires-clause-fresh g c = λ lists outlive. nothing_accepted _ c.in-Ok.core c.in-Ok.ensures.begun
 
 pub returns-in-Ok : goal.returns-in-Ok
 returns-in-Ok g c =
-    ran_beside c.args.workers _ _ _ c.requires.0 (run_case _ (IsServed AnswersBeside (g.S.Source.left c.args.input.now) (g.S.Source.left c.serve_case.new.input)) c.in-Ok.scenario c.serve_case.result (g.F.Folder.told c.args.folder.now) (g.F.Folder.faults c.args.folder.now)
-    (outside (g.F.Folder.told c.read_case.new.folder) (g.F.Folder.faults c.read_case.new.folder) (g.S.Source.left c.args.input.now) (g.S.Source.faults c.args.input.now) (g.W.Sink.written c.args.output.now) (g.W.Sink.faults c.args.output.now)) _ c.read_case.ensures.keeps
-    (stays _ _ command.Load _ c.read_case.ensures.others c.read_case.ensures.unasked) c.in-Ok.ensures.ok (c.serve_case.ensures (g.F.Folder.told c.read_case.new.folder) (g.F.Folder.faults c.read_case.new.folder)))
+    let core = c.in-Ok.core in let none = nothing_counted _ core c.in-Ok.ensures.begun in
+    let (text, t, so, put, log, settles) = c.serve-end.ensures.session in
+    let (output, is, wrote) =
+    began_beside c.args.workers core _ _ _ _ _ none (text, t, so, put) (λ zero. let (alone, is, wrote) = c.serve-end.ensures.alone zero in (alone, _, is, wrote)) in
+    run_case _ (IsServed (rule_of c.args.workers) (g.S.Source.left c.args.input.now) (g.S.Source.left c.serve-end.new.source)) core.log.opening c.close.result (g.F.Folder.told c.args.folder.now) (g.F.Folder.faults c.args.folder.now)
+    (outside (g.F.Folder.told c.open_case.new.folder) (g.F.Folder.faults c.open_case.new.folder) (g.S.Source.left c.args.input.now) (g.S.Source.faults c.args.input.now) (g.W.Sink.written c.args.output.now) (g.W.Sink.faults c.args.output.now)) _ c.open_case.ensures.keeps
+    (stays _ _ (command.Report report.Load) _ c.open_case.ensures.others c.open_case.ensures.unasked) c.in-Ok.ensures.case
+    (run_served _ c.serve-end.result.end output c.close.result (g.W.Sink.written c.serve-end.new.sink) (g.W.Sink.faults c.serve-end.new.sink) _ _ (refl, λ d. refl) is wrote c.serve-end.ensures.read c.serve-end.ensures.read_fault
+    c.serve-end.ensures.write_fault c.serve-end.ensures.later c.close.ensures.later c.close.ensures.answers c.close.ensures.wrote c.close.ensures.front c.close.ensures.cause c.close.ensures.plain c.close.ensures.read_fault)
 
 pub returns-in-Err : goal.returns-in-Err
 returns-in-Err g c =
-    ran_beside c.args.workers _ _ _ c.requires.0 (run_unread (IsServed AnswersBeside (g.S.Source.left c.args.input.now) (g.S.Source.left c.args.input.now)) c.in-Err.fault c.refuse_fault.result
-    (outside (g.F.Folder.told c.args.folder.now) (g.F.Folder.faults c.args.folder.now) (g.S.Source.left c.args.input.now) (g.S.Source.faults c.args.input.now) (g.W.Sink.written c.args.output.now) (g.W.Sink.faults c.args.output.now)) _ (c.read_case.ensures.keeps, stays _ _ command.Load _ c.read_case.ensures.others c.read_case.ensures.unasked) (refl, refl)
-    c.in-Err.ensures.fault c.in-Err.ensures.asked c.in-Err.ensures.risen c.refuse_fault.ensures.whole c.refuse_fault.ensures.front c.refuse_fault.ensures.folder_fault c.refuse_fault.ensures.cause)
+    run_unread (IsServed (rule_of c.args.workers) (g.S.Source.left c.args.input.now) (g.S.Source.left c.args.input.now)) c.in-Err.fault c.refuse_fault.result
+    (outside (g.F.Folder.told c.args.folder.now) (g.F.Folder.faults c.args.folder.now) (g.S.Source.left c.args.input.now) (g.S.Source.faults c.args.input.now) (g.W.Sink.written c.args.output.now) (g.W.Sink.faults c.args.output.now)) _ (c.open_case.ensures.keeps, stays _ _ (command.Report report.Load) _ c.open_case.ensures.others c.open_case.ensures.unasked) (refl, refl)
+    c.in-Err.ensures.fault c.in-Err.ensures.asked c.in-Err.ensures.risen c.refuse_fault.ensures.whole c.refuse_fault.ensures.front c.refuse_fault.ensures.folder_fault c.refuse_fault.ensures.cause

@@ -1,19 +1,28 @@
 use Rattle.std.proofs.Common.{refl}
 use Rattle.ltm_program.specs.Views.{IsViewed}
 use Rattle.ltm_command.specs.declared.words.Command.TheVariants as command
+use Rattle.ltm_command.specs.declared.words.Report.TheVariants as report
 use Rattle.ltm_command.specs.Run.{outside}
 use Rattle.ltm_command.proofs.Running.{stays}
-use Rattle.ltm_program.proofs.Cases.{run_case, run_unread}
+use Rattle.ltm_program.proofs.Cases.{nothing_accepted, nothing_counted, view_began, run_case, run_unread}
+use Rattle.ltm_program.proofs.Closings.{run_served}
 use Rattle.ltm_program.proofs.view.serve_viewed.Goals as goal
+
+pub view-end-requires-clause-fresh : goal.view-end-requires-clause-fresh
+view-end-requires-clause-fresh g c = λ lists outlive. nothing_accepted _ c.in-Ok.core c.in-Ok.ensures.begun
 
 pub returns-in-Ok : goal.returns-in-Ok
 returns-in-Ok g c =
-    run_case _ (IsViewed c.args.viewers (g.S.Source.left c.args.input.now) (g.S.Source.left c.view_case.new.input)) c.in-Ok.scenario c.view_case.result (g.F.Folder.told c.args.folder.now) (g.F.Folder.faults c.args.folder.now)
-    (outside (g.F.Folder.told c.read_case.new.folder) (g.F.Folder.faults c.read_case.new.folder) (g.S.Source.left c.args.input.now) (g.S.Source.faults c.args.input.now) (g.W.Sink.written c.args.output.now) (g.W.Sink.faults c.args.output.now)) _ c.read_case.ensures.keeps
-    (stays _ _ command.Load _ c.read_case.ensures.others c.read_case.ensures.unasked) c.in-Ok.ensures.ok (c.view_case.ensures (g.F.Folder.told c.read_case.new.folder) (g.F.Folder.faults c.read_case.new.folder))
+    let core = c.in-Ok.core in let none = nothing_counted _ core c.in-Ok.ensures.begun in
+    let (output, so, wrote) = c.view-end.ensures.view in
+    run_case _ (IsViewed c.args.viewers (g.S.Source.left c.args.input.now) (g.S.Source.left c.view-end.new.source)) core.log.opening c.close.result (g.F.Folder.told c.args.folder.now) (g.F.Folder.faults c.args.folder.now)
+    (outside (g.F.Folder.told c.open_case.new.folder) (g.F.Folder.faults c.open_case.new.folder) (g.S.Source.left c.args.input.now) (g.S.Source.faults c.args.input.now) (g.W.Sink.written c.args.output.now) (g.W.Sink.faults c.args.output.now)) _ c.open_case.ensures.keeps
+    (stays _ _ (command.Report report.Load) _ c.open_case.ensures.others c.open_case.ensures.unasked) c.in-Ok.ensures.case
+    (run_served _ c.view-end.result output c.close.result (g.W.Sink.written c.view-end.new.sink) (g.W.Sink.faults c.view-end.new.sink) _ _ (refl, λ d. refl) (_, view_began c.args.viewers core _ _ _ output _ none so) wrote c.view-end.ensures.read c.view-end.ensures.read_fault
+    c.view-end.ensures.write_fault c.view-end.ensures.later c.close.ensures.later c.close.ensures.answers c.close.ensures.wrote c.close.ensures.front c.close.ensures.cause c.close.ensures.plain c.close.ensures.read_fault)
 
 pub returns-in-Err : goal.returns-in-Err
 returns-in-Err g c =
     run_unread (IsViewed c.args.viewers (g.S.Source.left c.args.input.now) (g.S.Source.left c.args.input.now)) c.in-Err.fault c.refuse_fault.result
-    (outside (g.F.Folder.told c.args.folder.now) (g.F.Folder.faults c.args.folder.now) (g.S.Source.left c.args.input.now) (g.S.Source.faults c.args.input.now) (g.W.Sink.written c.args.output.now) (g.W.Sink.faults c.args.output.now)) _ (c.read_case.ensures.keeps, stays _ _ command.Load _ c.read_case.ensures.others c.read_case.ensures.unasked) (refl, refl)
+    (outside (g.F.Folder.told c.args.folder.now) (g.F.Folder.faults c.args.folder.now) (g.S.Source.left c.args.input.now) (g.S.Source.faults c.args.input.now) (g.W.Sink.written c.args.output.now) (g.W.Sink.faults c.args.output.now)) _ (c.open_case.ensures.keeps, stays _ _ (command.Report report.Load) _ c.open_case.ensures.others c.open_case.ensures.unasked) (refl, refl)
     c.in-Err.ensures.fault c.in-Err.ensures.asked c.in-Err.ensures.risen c.refuse_fault.ensures.whole c.refuse_fault.ensures.front c.refuse_fault.ensures.folder_fault c.refuse_fault.ensures.cause

@@ -1,4 +1,4 @@
-//! The command `delay`.
+//! The commands that report of a case's loading: `load`, `delay`, `gap`.
 ghost use Rattle.std.specs.Prelude.{◌≡◌, Ok, Err, IfOk, IfErr, IfSome, true, false};
 ghost use Rattle.ltm_io.specs.declared.doc.Doc.{Doc};
 ghost use Rattle.ltm_casefile.specs.declared.faults.File.{File};
@@ -9,27 +9,36 @@ ghost use Rattle.ltm_command.specs.Answers.{Answers, AnswersFault};
 ghost use Rattle.ltm_command.specs.Program.{FileFailed};
 ghost use Rattle.ltm_check_command.specs.declared.refusal.Refusal.{Refusal};
 
-use crate::words::Command;
+use crate::words::{Command, Report};
 use ltm_casefile::{CaseFault, read_case};
 use ltm_io::Folder;
-use ltm_report::delay_report_of;
+use ltm_report::{delay_report_of, gap_report_of, report_of};
 use std::alloc::Global;
 
-/// The delays of the folder's case, or why there are none.
-#[tactic(auto, using(crate::proofs::MissingFile::delay_failed, crate::proofs::Answering::delay_told, crate::proofs::Answering::delay_fault))]
-pub fn delay_case<F: Folder>(alloc: Global, folder: &mut F) -> Result<Vec<u8>, CaseFault>
+/// A report of the folder's case, or why there is none.
+#[tactic(auto, using(crate::proofs::MissingFile::failed, crate::proofs::Answering::report_told, crate::proofs::Answering::report_fault))]
+pub fn report_case<F: Folder>(
+    alloc: Global,
+    report: Report,
+    folder: &mut F,
+) -> Result<Vec<u8>, CaseFault>
     ensures keeps { F.told folder.new ≡ F.told folder.old }
     ensures others { (d : Doc) → is_case_file d ≡ false
         → F.faults folder.new d ≡ F.faults folder.old d }
     ensures unasked { IfSome (F.told folder.old) (λ files. (d : Doc) → asks_for files d ≡ false
         → F.faults folder.new d ≡ F.faults folder.old d) }
-    ensures text { IfOk result (λ text. Answers Command.Delay (F.told folder.old) (Ok text.items)) }
-    ensures fault { IfErr result (λ e. AnswersFault Command.Delay (F.told folder.old)
+    ensures text { IfOk result (λ text. Answers (Command.Report report) (F.told folder.old)
+        (Ok text.items)) }
+    ensures fault { IfErr result (λ e. AnswersFault (Command.Report report) (F.told folder.old)
         (Refusal.Case e)) }
     ensures failed { (file : File) → result ≡ Err (CaseFault.Folder file)
-        → FileFailed Command.Delay (F.told folder.old) (F.faults folder.old) (F.faults folder.new) }
+        → FileFailed (Command.Report report) (F.told folder.old) (F.faults folder.old)
+        (F.faults folder.new) }
 {
     let scenario = read_case(alloc, folder)?;
-    let text = delay_report_of(alloc, &scenario)?;
-    Ok(text)
+    match report {
+        Report::Load => Ok(report_of(alloc, &scenario)?),
+        Report::Delay => Ok(delay_report_of(alloc, &scenario)?),
+        Report::Gap => Ok(gap_report_of(alloc, &scenario)?),
+    }
 }
