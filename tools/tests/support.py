@@ -1,4 +1,5 @@
 """What several tests use: folders that are made and let go, cases as texts, and a program that is made for a test."""
+import hashlib
 import importlib.machinery
 import importlib.util
 import os
@@ -23,6 +24,14 @@ ROAD = {
     "demand": "origin,destination,from_slot,to_slot,vehicles\nn1,n2,0,2,1\n",
     "splits": "node,destination,from_slot,weights\nn1,n2,0,a=1\n",
 }
+
+
+def digest(folder: Path) -> str:
+    """The sum of all files of a folder with their names."""
+    made = hashlib.sha256()
+    for path in sorted(folder.iterdir()):
+        made.update(path.name.encode() + b"\0" + path.read_bytes() + b"\0")
+    return made.hexdigest()
 
 
 def script(name: str) -> Any:

@@ -1,10 +1,12 @@
 """Turns and signals of a GMNS network, by hand: what is forbidden, lanes, a capacity and a penalty, phases by ring, and
 a left turn that is permitted."""
 import csv
+import shutil
 import unittest
+from pathlib import Path
 
 import commands
-from support import FolderTest
+from support import EXAMPLES, FolderTest, digest
 
 from ltm_tools.case import Case
 
@@ -116,6 +118,41 @@ class Turns(FolderTest):
         self.made(signal_timing_plan=PLAN.replace("60", "40"))
         self.assertIn("take 60 s, longer than its cycle_length of 40", self.out)
         self.assertEqual([self.rows()[name]["greens"] for name in ("w__e_r", "n__s_r")], ["0-12", "17-35"])
+
+
+class Example(FolderTest):
+    """The network of examples/from_gmns with its signal."""
+
+    def made(self, *words: str) -> Path:
+        net, case = self.folder / "net", self.folder / "case"
+        net.mkdir()
+        for folder in ("gmns", "signal"):
+            for path in (EXAMPLES / "from_gmns" / folder).iterdir():
+                shutil.copy(path, net)
+        status, _, err = commands.run("from-gmns", str(net), str(case), "--period", "30", "--horizon", "30", *words)
+        self.assertEqual((status, err), (0, ""))
+        return case
+
+    def test_with_its_signal(self) -> None:
+        case = self.made("--step", "5s")
+        with open(case / "turns.csv", newline="", encoding="utf-8") as file:
+            rows = {row["link"]: row for row in csv.DictReader(file)}
+        # 450 vehicles in 30 minutes are 0.25 a second, and a lane of 800 an hour lets 0.222 pass: their queue fills the
+        # 30 s of green. Of 103 one goes at the end, of 30 * 700 / 3600 = 5.833 that would pass in it
+        self.assertEqual([rows["103__104"][name] for name in ("greens", "permitted", "opposing", "factors")],
+                         ["35-55", "0-30", "106__104", "0.171 0.171 0.171"])
+        self.assertNotIn("103__107_r", rows)
+        # a turn of 106 lets half of what it takes pass in 12 slots of 5 s
+        links = {link.name: link for link in Case.read(case).links}
+        capacity = links["106__104"].capacity(5000)
+        self.assertEqual([(limit.from_slot, limit.to_slot, limit.units) for limit in Case.read(case).signals
+                          if limit.link == "106__104"][:2], [(6, 12, 0), (18, 24, 0)])
+        self.assertAlmostEqual(capacity * 720 / 1000, 800, delta=800 * 0.059)
+
+    def test_without_turns_it_is_as_before_there_were_any(self) -> None:
+        # by commit 564d1b81, which read no turns
+        self.assertEqual(digest(self.made("--turns", "none")),
+                         "d4497f2d5cd12b082b6c41409f8ab4c4c049a400704a9d30d5e3e47cb1cc6061")
 
 
 if __name__ == "__main__":

@@ -6,6 +6,7 @@ import unittest
 from fractions import Fraction
 
 import commands
+from support import digest
 from test_from_sumo import SumoTest, edge, way
 
 from ltm_tools.network.crossings import gaps
@@ -180,7 +181,9 @@ class Turns(SumoTest):
         self.made(*WORDS, net=NET, routes=ROUTES)
         case = self.made("--turns", "none", *WORDS[2:], net=NET, routes=ROUTES)
         self.assertEqual([link.name for link in case.links], ["nc", "sc", "wc", "cn", "cs", "ce"])
-        self.assertFalse((self.folder / "case" / "turns.csv").exists())
+        # the case that was made of these files when there were no turns yet, by commit 564d1b81
+        self.assertEqual(digest(self.folder / "case"),
+                         "95cdc545f3a2187bb6c34ed6a036f7d8626bc8082688c13dda2740eac8f06412")
 
 
 class Gaps(unittest.TestCase):
