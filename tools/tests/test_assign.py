@@ -20,6 +20,7 @@ if not libraries.missing(("numpy",)):
     from ltm_tools.assign.assigning import Assignment, Options
     from ltm_tools.assign.engine import Engine
     from ltm_tools.assign.exits import Gates, leaving, passed
+    from ltm_tools.assign.leading import circling, leading_on
     from ltm_tools.assign.net import Net
     from ltm_tools.assign.result import read_iterations
 
@@ -121,6 +122,30 @@ class ByHand(Hand):
         self.assertTrue(180 * (0.25 * 40 + 0.75 * 100) <= self.seconds[3] < 18_000, self.seconds)
         assert made.best_one is not None
         self.assertEqual(made.best_one.number, 3)
+
+
+    def test_one_link_leads_on(self) -> None:
+        """Also where two nodes are near each other and the way on leads over one that is far: `b` leads to `a`, and `a`
+        to `x`."""
+        net = Net(Case.read(self.case(setup="step_ms,slots,origin_capacity\n1000,60,32\n", links=LINKS + "".join(
+            f"{name},{name[0]},{name[1]},100,36,18,300\n" for name in ("ab", "ba", "ax", "xd")),
+            demand="origin,destination,from_slot,to_slot,vehicles\nb,d,0,10,1\n", splits=None)))
+        ahead = numpy.array([[{"a": 10, "b": 5, "x": 10**6, "d": 0}[name]] for name in net.node_names])[None]
+        self.assertEqual({name for name, leads in zip(net.names, leading_on(net, ahead)[0, :, 0]) if leads},
+                         {"ba", "ax", "xd"})
+
+    def test_circles(self) -> None:
+        """What gentle steps look at: who goes back and forth between `a` and `b`, and who comes there, is in a circle;
+        where nobody goes back there is none."""
+        net = Net(Case.read(self.case(setup="step_ms,slots,origin_capacity\n1000,60,32\n", links=LINKS + "".join(
+            f"{name},{name[0]},{name[1]},{metres},36,18,300\n" for name, metres in (
+                ("ca", 100), ("ab", 100), ("ba", 100), ("ad", 400), ("bd", 200))),
+            demand="origin,destination,from_slot,to_slot,vehicles\nc,d,0,10,1\n", splits=None)))
+        for back, found in (0.5, {"a", "b", "c"}), (0.0, set()):
+            shares = numpy.array([[{"ca": 1, "ab": 0.5, "ad": 0.5, "ba": back, "bd": 1 - back}[name]]
+                                  for name in net.names])[None]
+            rounds = circling(net, shares)[0, :, 0]
+            self.assertEqual({net.node_names[node] for node, is_one in zip(net.tails, rounds) if is_one}, found)
 
 
 @needs_numpy

@@ -20,7 +20,7 @@ from .steps import averaged, stepped
 
 SMALLER, LARGER, BACK = 0.7, 1.03, 0.3  # what a step's size is multiplied by
 LOST = 1.5  # so many times the hours of the best iteration, with more regret, and an iteration is taken back
-Step = Callable[[Net, Labels, Whole, float], Real]
+Step = Callable[[Net, Labels, Whole, float, bool], Real]
 
 
 @dataclass(frozen=True)
@@ -128,6 +128,7 @@ class Assignment:
         self.best_one: Iteration | None = None
         self.best_left: Whole | None = None  # what has left each link by each boundary
         self.best_labels: Labels | None = None
+        self.gently = False  # whether a step has led to a gridlock
 
     def run(self, program: str | os.PathLike[str] | None = None) -> Iterator[Iteration]:
         """Each iteration as it is done, the first of the shares that it begins with; the last is that behind which no
@@ -146,7 +147,7 @@ class Assignment:
                 if look.per_cent <= self.options.until or number == self.options.iterations:
                     return
                 if is_lost and self.best_labels is not None:
-                    self.weights, labels, self.ahead = self.best, self.best_labels, None
+                    self.weights, labels, self.ahead, self.gently = self.best, self.best_labels, None, True
                 self.weights = self._next(labels, made.size)
                 if not engine.tell(rows_of(self.net, self.weights, self.period)) and not is_lost:
                     return
@@ -162,7 +163,7 @@ class Assignment:
         if self.ahead is not None:
             labels.ahead = (self.ahead + labels.ahead) // 2
         self.ahead = labels.ahead
-        weights = rounded(self.net, self.rule.step(self.net, labels, self.weights, size))
+        weights = rounded(self.net, self.rule.step(self.net, labels, self.weights, size, self.gently))
         return with_last(weights, last_period(labels))
 
     def best_case(self) -> Case:

@@ -6,9 +6,14 @@ its links, until each has one.
 """
 from __future__ import annotations
 
+from heapq import heappop, heappush
+
 import numpy
 
-from .net import FAR, Net, Truth, Whole
+from .net import FAR, Net, Real, Truth, Whole
+
+NONE = numpy.iinfo(numpy.int64).max // 2  # the potential from where no way leads
+ROUNDS = 40  # of raising all at once; where nodes raise each other longer a search goes from the destination
 
 
 def leading_on(net: Net, ahead: Whole) -> Truth:
@@ -16,14 +21,46 @@ def leading_on(net: Net, ahead: Whole) -> Truth:
     still to go."""
     potential = ahead.copy()
     potential[:, net.ends, numpy.arange(len(net.end_names))] = -1
-    no_way = net.free_time >= FAR
-    potential[:, no_way] = numpy.iinfo(numpy.int64).max // 2
-    for _ in range(len(net.node_names)):
-        behind = numpy.where(net.leads, potential[:, net.head], numpy.iinfo(numpy.int64).max // 2)
+    potential[:, net.free_time >= FAR] = NONE
+    low: Truth = numpy.zeros((len(ahead), *net.routed.shape), dtype=bool)
+    for _ in range(ROUNDS):
+        behind = numpy.where(net.leads, potential[:, net.head], NONE)
         wanted = net.least_of(behind) + 1
         now = potential[:, net.tails]
         low = (now < wanted) & net.routed
         if not low.any():
             break
         potential[:, net.tails] = numpy.where(low, wanted, now)
+    for span, end in numpy.argwhere(low.any(axis=1)).tolist():
+        potential[span, :, end] = raised(net, ahead[span, :, end].tolist(), end)
     return numpy.asarray((potential[:, net.tail] > potential[:, net.head]) & net.leads)
+
+
+def raised(net: Net, own: list[int], end: int) -> list[int]:
+    """The least potentials for a destination, none below a node's own, by which each node with a way has a link that
+    leads on: the lowest node first, each as low as one before it lets it be."""
+    into: list[list[int]] = [[] for _ in own]
+    for link in net.leads[:, end].nonzero()[0].tolist():
+        into[net.head[link]].append(int(net.tail[link]))
+    found = [int(NONE)] * len(own)
+    heap = [(-1, int(net.ends[end]))]
+    while heap:
+        potential, node = heappop(heap)
+        if found[node] == NONE:
+            found[node] = potential
+            for tail in into[node]:
+                if found[tail] == NONE:
+                    heappush(heap, (max(own[tail], potential + 1), tail))
+    return found
+
+
+def circling(net: Net, shares: Real) -> Truth:
+    """Of each period, node of `tails` and destination whether who goes on by the shares may come into a circle."""
+    used, settled = shares > 0, numpy.zeros((len(shares), *net.free_time.shape), dtype=bool)
+    settled[:, net.ends, numpy.arange(len(net.end_names))] = True
+    while True:
+        now = settled[:, net.tails]
+        found = now | ~net.some_of(used & ~settled[:, net.head])
+        if (found == now).all():
+            return numpy.asarray(~found)
+        settled[:, net.tails] = found

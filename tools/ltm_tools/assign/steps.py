@@ -1,18 +1,19 @@
 """New shares from those of a loading and the times that it shows: shares go over to the best link that leads on.
 
 A share leaves a link by its excess, its time less the best one's. All of it goes where nothing flows, and where the
-link does not lead on.
+link does not lead on; in a gentle step only a part does there, as far as no circle comes of it.
 """
 from __future__ import annotations
 
 import numpy
 
 from .labels import Labels
-from .leading import leading_on
+from .leading import circling, leading_on
 from .net import WHOLE, Net, Real, Truth, Whole
 
 LEAST_SPARE, MOST_SPARE = 0.05, 4.0
 NOTHING = 0.5  # thousandths of a vehicle in a period that are as good as none
+GENTLE = 0.3  # times the size of a gentle step, the part that goes of a share by a link that does not lead on
 
 
 class Choice:
@@ -33,7 +34,7 @@ class Choice:
         self.best: Real = numpy.where(is_best, 1.0 / numpy.maximum(count, 1), 0.0)
 
 
-def stepped(net: Net, labels: Labels, weights: Whole, size: float) -> Real:
+def stepped(net: Net, labels: Labels, weights: Whole, size: float, gently: bool = False) -> Real:
     """The shares after a step: of each link that is not the best the part `size` times its excess over the length of a
     period, times what it could spare, goes over, at most all that it has."""
     choice = Choice(net, labels)
@@ -41,7 +42,7 @@ def stepped(net: Net, labels: Labels, weights: Whole, size: float) -> Real:
     part = numpy.where(numpy.isfinite(choice.excess), size * choice.excess / (labels.period * net.step), 1.0)
     part *= spare(net, labels, choice.best)
     part = numpy.where(labels.flow[:, net.tail] < NOTHING, 1.0, part)
-    return moved(net, shares, numpy.minimum(shares, part), choice.best)
+    return shares_after(net, choice, shares, numpy.minimum(shares, part), size if gently else None)
 
 
 def spare(net: Net, labels: Labels, best: Real) -> Real:
@@ -57,12 +58,21 @@ def spare(net: Net, labels: Labels, best: Real) -> Real:
     return found
 
 
-def averaged(net: Net, labels: Labels, weights: Whole, size: float) -> Real:
+def averaged(net: Net, labels: Labels, weights: Whole, size: float, gently: bool = False) -> Real:
     """The shares after a step: of each share the part `size` goes over to the best link."""
     choice = Choice(net, labels)
     shares = weights / WHOLE
     part = numpy.where(numpy.isfinite(choice.excess) & (labels.flow[:, net.tail] >= NOTHING), size, 1.0)
-    return moved(net, shares, shares * numpy.minimum(part, 1.0), choice.best)
+    return shares_after(net, choice, shares, shares * numpy.minimum(part, 1.0), size if gently else None)
+
+
+def shares_after(net: Net, choice: Choice, shares: Real, leaves: Real, gently: float | None) -> Real:
+    """The shares once so much has left; where a size of a gentle step is told, less of those that do not lead on."""
+    if gently is None:
+        return moved(net, shares, leaves, choice.best)
+    slow = numpy.where(choice.lead, leaves, shares * min(1.0, GENTLE * gently))
+    rounds = circling(net, moved(net, shares, slow, choice.best))[:, net.group]
+    return moved(net, shares, numpy.where(rounds, leaves, slow), choice.best)
 
 
 def moved(net: Net, shares: Real, leaves: Real, best: Real) -> Real:
