@@ -182,28 +182,32 @@ class Page(BrowserTest):
         """A road is found by its name, shut, looked at later, and opened again."""
         self.serve()
         self.focus("search")
-        self.browser.type("north_east" + ENTER)
-        self.assertEqual(self.text("#edit h2").split()[:2], ["Road", "north_east"])
-        for _ in range(20):
-            self.browser.type(SHIFT + TAB + NULL)
-            if self.browser.run("return document.activeElement.type === 'submit'"):
-                break
-        self.browser.type(ENTER)
-        self.wait(1)
+        for count, name in ((1, "north_east"), (2, "west_south")):
+            self.browser.type(CTRL + "a" + NULL + name + ENTER)
+            self.assertEqual(self.text("#edit h2").split()[:2], ["Road", name])
+            self.focus("submit", SHIFT + TAB + NULL)
+            self.browser.type(ENTER)
+            self.wait(count)
+            self.focus("search")
         self.focus("time")
         at = self.browser.run("return live.state.frame.k")
         self.browser.type(RIGHT * 3)
         self.browser.until("return live.state.frame.k === arguments[0]", at + 3)
         self.browser.type(CTRL + "z" + NULL)
+        self.wait(1)
+        self.focus("back", SHIFT + TAB + NULL)
+        self.browser.type(ENTER)
         self.wait(0)
+        self.focus("search", "")  # where it is: nobody loses the place
         self.assertEqual(self.browser.console(), [])
 
-    def focus(self, name: str) -> None:
-        """Goes on by Tab until an element has the focus."""
+    def focus(self, name: str, keys: str = TAB) -> None:
+        """Goes on by Tab until an element of this id, kind or class has the focus."""
         for _ in range(60):
-            if self.browser.run("return document.activeElement.id") == name:
+            if self.browser.run("const {id, type, className} = document.activeElement; return [id, type, className]"
+                                ".includes(arguments[0])", name):
                 return
-            self.browser.type(TAB)
+            self.browser.type(keys)
         raise AssertionError(f"{name} is not reached")
 
     @needs_numpy

@@ -112,9 +112,11 @@ const ltmEdits = (() => {
     return { draw, preset, hint: () => of !== null && kind !== null && hint() };
   }
 
-  // The list: each with a box that switches it on and off, its words, and a button that takes it back.
+  // The list: each with a box that switches it on and off, its words, and a button that takes it back; where that had the focus the next one gets
+  // it, or what `asks.leave()` gives it to.
   function list(box, asks) {
     function draw(entries, mine) {
+      const all = box.node().children, held = [...all].findIndex(item => item.contains(document.activeElement));
       const items = box.selectAll("li").data(entries, one => one.id).join(enter => {
         const item = enter.append("li");
         item.append("input").attr("type", "checkbox").attr("aria-label", "on").on("change", function () { asks.switch(d3.select(this.parentNode).datum().id, this.checked); });
@@ -132,6 +134,7 @@ const ltmEdits = (() => {
         item.select(".back").attr("aria-label", `take back: ${one.text}`);
       });
       if (entries.length) box.node().scrollTop = box.node().scrollHeight;
+      if (held >= 0 && !box.node().contains(document.activeElement)) all.length ? all[Math.min(held, all.length - 1)].querySelector(".back").focus() : asks.leave();
     }
     return { draw };
   }

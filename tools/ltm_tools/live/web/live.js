@@ -247,7 +247,7 @@
   // ---- the list, and what it costs
 
   const undo = id => ask({ undo: id });
-  const listing = ltmEdits.list(d3.select("#list"), { undo, switch: (id, on) => ask({ switch: id, on }), pickOf: ({ ask: { link, node } }) => (link || node) && picked(node === undefined ? { link: state.net.linkOf.get(link) } : { node: state.net.nodeOf.get(node) }) });
+  const listing = ltmEdits.list(d3.select("#list"), { undo, leave: () => $("search").focus(), switch: (id, on) => ask({ switch: id, on }), pickOf: ({ ask: { link, node } }) => (link || node) && picked(node === undefined ? { link: state.net.linkOf.get(link) } : { node: state.net.nodeOf.get(node) }) });
 
   function showList(told) {
     state.list = told.list;
