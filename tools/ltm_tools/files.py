@@ -241,8 +241,12 @@ def write_bytes(path: str | os.PathLike[str], data: bytes) -> None:
 
 def write_records(path: str | os.PathLike[str], header: Sequence[str], rows: Iterable[Sequence[object]]) -> None:
     """Writes a file of records as a case has them: fields of plain text with commas between, a line each."""
-    lines = [",".join(map(str, row)) for row in (header, *rows)]
-    write_text(path, "".join(line + "\n" for line in lines))
+    write_lines(path, header, (",".join(map(str, row)) for row in rows))
+
+
+def write_lines(path: str | os.PathLike[str], header: Sequence[str], lines: Iterable[str]) -> None:
+    """The same of records that are lines already, without their end."""
+    write_text(path, "\n".join((",".join(header), *lines, "")))
 
 
 def make_folder(path: str | os.PathLike[str]) -> None:

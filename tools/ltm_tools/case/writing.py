@@ -3,7 +3,7 @@ import os
 from collections.abc import Iterable, Iterator, Sequence
 
 from ..errors import Fault
-from ..files import make_folder, write_records
+from ..files import make_folder, write_lines, write_records
 from ..formats import HEADERS, SETUP, is_name, short_vehicles, weights_text
 from ..replacing import SETUP_FILE, together
 from .rows import Rows, Split
@@ -41,12 +41,13 @@ def write_rows(case: Rows, folder: str | os.PathLike[str]) -> None:
     }
     if case.splits is not None:
         rows["splits"] = split_records(case.splits)
-    for file, limits in (("signals", case.signals), ("limits", case.limits)):
-        if file in more:
-            rows[file] = ([row.link, row.from_slot, row.to_slot, short_vehicles(row.units)] for row in limits)
     with together():
         make_folder(folder)
         write_records(os.path.join(folder, SETUP_FILE), (*SETUP, *more),
                       [[setup.step_ms, setup.slots, short_vehicles(setup.origin_capacity), *more.values()]])
         for file, lines in rows.items():
             write_records(os.path.join(folder, f"{file}.csv"), HEADERS[file], lines)
+        for file, limits in (("signals", case.signals), ("limits", case.limits)):
+            if file in more:
+                write_lines(os.path.join(folder, f"{file}.csv"), HEADERS[file],
+                            (f"{row.link},{row.from_slot},{row.to_slot},{short_vehicles(row.units)}" for row in limits))

@@ -94,13 +94,15 @@ class Let:
         times = range(0, lcm(self.cycle, self.step_ms), self.step_ms)
         whole, begin = self.parts * self.step_ms, first
         if self.comes_round(times):
-            runs = self.runs(first, len(times))
+            runs, stop = self.runs(first, len(times)), min(last, self.plan.end_ms // self.step_ms)
             of_round, more = self.by(times.stop) - self.by(0), 0
-            while begin + len(times) <= min(last, self.plan.end_ms // self.step_ms):
+            while begin < stop:
                 for start, end, green, later in runs:
-                    count = self.capacity * (later + more) // whole - self.capacity * (green + more) // whole
-                    yield begin + start, begin + end, min(MOST_SLOT_UNITS, count)
+                    if begin + start < stop:
+                        count = self.capacity * (later + more) // whole - self.capacity * (green + more) // whole
+                        yield begin + start, min(begin + end, stop), min(MOST_SLOT_UNITS, count)
                 begin, more = begin + len(times), more + of_round
+            begin = stop
         for slot in range(begin, last):
             if (units := self.units(slot)) is not None:
                 yield slot, slot + 1, units
