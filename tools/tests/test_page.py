@@ -257,6 +257,10 @@ class InABrowser(BrowserTest):
                          [5000, 2400, 2600])
         self.browser.click(*self.browser.run("return ltm.middle('a')"))
         self.assertEqual(self.text("#link h2"), "Link Main from n1 to n2, 20 m, with b")
+        # the search takes a line, and the table the rest
+        self.assertLess(self.browser.run("const [search, table] = ['#search', '#list .scroll'].map(each =>"
+                                         " document.querySelector(each).getBoundingClientRect());"
+                                         "return search.height > 10 ? table.top - search.top : 999"), 50)
         self.browser.run("document.querySelector('#joined input').click()")
         self.assertEqual(self.browser.run(rows), ["n1 (origin)", "a"])
         self.browser.click(*self.browser.run("return ltm.middle('a')"))
