@@ -23,7 +23,8 @@ class Map:
     def place(self, place: Place) -> Place:
         """The place as `nodes.csv` has it."""
         # exact, as the file has the numbers
-        x, y = (float(Fraction(repr(number)) - added) for number, added in zip(place, self.added))
+        x, y = place if not any(self.added) else (float(Fraction(repr(number)) - added)
+                                                  for number, added in zip(place, self.added))
         return (x, y) if self.projection is None else self.projection.degrees((x, y))
 
     def line(self, line: Line) -> Line:

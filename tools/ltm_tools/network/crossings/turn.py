@@ -38,19 +38,18 @@ class Turn:
         """Whether nothing but its yielding holds it, as at a sign."""
         return all(green.to_ms - green.from_ms == green.cycle_ms for green in self.protected + self.permitted)
 
-    def factor(self, volumes: Volumes, number: int) -> Fraction:
-        """The share of its greens in which it yields that it gets in a slice."""
+    def factors(self, volumes: Volumes) -> list[Fraction]:
+        """The share that it gets of its greens in which it yields, in each slice; none for a turn that never yields."""
+        if not self.permitted:
+            return []
         if isinstance(self.permissive, Fraction):
-            return self.permissive
+            return [self.permissive] * volumes.slices
         green = sum((one.share * (one.to_ms - one.from_ms) for one in self.permitted), Fraction(0))
         green /= max(one.share for one in self.permitted)
-        return gaps.factor(volumes.flow(self.opposing, number), float(self.opposing_saturation) / 3600,
-                           float(green) / 1000, self.permitted[0].cycle_ms / 1000, float(self.saturation) / 3600,
-                           self.permissive)
-
-    def factors(self, volumes: Volumes) -> list[Fraction]:
-        """The factor of each slice; none for a turn that never yields."""
-        return [self.factor(volumes, number) for number in range(volumes.slices)] if self.permitted else []
+        rates = float(self.opposing_saturation) / 3600, float(self.saturation) / 3600
+        return [gaps.factor(volumes.flow(self.opposing, number), rates[0], float(green) / 1000,
+                            self.permitted[0].cycle_ms / 1000, rates[1], self.permissive)
+                for number in range(volumes.slices)]
 
     def part_of_green(self, volumes: Volumes) -> Fraction:
         """The share of all its greens that it gets in the first slice; 1 for a turn without a signal."""
@@ -58,7 +57,7 @@ class Turn:
                                 for some in (self.protected, self.permitted))
         if not permitted:
             return Fraction(1)
-        return (protected + permitted * self.factor(volumes, 0)) / (protected + permitted)
+        return (protected + permitted * self.factors(volumes)[0]) / (protected + permitted)
 
 
 def turns_of(links: Mapping[Pair, str], movements: Movements, capacities: Mapping[str, Fraction],
