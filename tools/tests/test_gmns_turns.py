@@ -73,6 +73,20 @@ class Turns(FolderTest):
         self.assertIn("1 rows of signal_phase_mvmt.csv let a turn go on red, which is not carried\n", self.out)
         self.assertEqual({limit.link for limit in case.signals}, {"w__e_r", "w__n_r", "n__s_r", "n__w_r", "e"})
 
+    def test_a_turn_that_yields_at_a_sign(self) -> None:
+        # n to the left, onto e, yields to both of w and e straight on, to the right, onto w, to e alone, and not to s,
+        # which has a sign too; nobody has a signal
+        movements = MOVEMENTS.replace("signal_with_RTOR,600,4", "yield,,").replace(
+            "4,C,n,1,2,s,thru,signal", "4,C,n,1,,e,left,stop").replace("signal", "") + "6,C,s,1,2,n,thru,stop,,\n"
+        self.made("--turns", "all", movement=movements, signal_timing_plan=None,
+                  demand="o_zone_id,d_zone_id,volume\nW,E,600\nE,W,240\nN,E,30\nN,W,30\n")
+        rows = self.rows()
+        self.assertEqual([(rows[name]["opposing"], rows[name]["permissive"], rows[name]["permitted"])
+                          for name in ("n__e_r", "n__w_r")],
+                         [("w__e_r e w__n_r", "6.5 3.5 0", "0-60"), ("e", "6.5 3.5 0", "0-60")])
+        # of an hour's 240, 0.0667 a second, 0.2078 a second find a gap, of a lane's 0.5
+        self.assertEqual(set(rows["n__w_r"]["factors"].split()), {"0.415"})
+
     def test_none_is_the_network_without_turns(self) -> None:
         case = self.made("--turns", "none")
         self.assertEqual((len(case.links), case.signals), (8, []))
@@ -109,10 +123,10 @@ class Turns(FolderTest):
     def test_what_is_missing_or_does_not_fit_is_told(self) -> None:
         self.made(signal_timing_plan=None)
         self.assertIn("5 turns have a signal by movement.csv, and there is no signal_timing_plan.csv", self.out)
-        self.made(movement=MOVEMENTS + "6,C,w,,,w9,left,,,\n7,C,s,,,n,thru,stop,,\n",
+        self.made(movement=MOVEMENTS + "6,C,w,,,w9,left,,,\n7,C,s,,,n,thru,stop_4_way,,\n",
                   signal_phase_mvmt=OF_PHASES + "71,99,protected\n")
         self.assertIn("1 rows of movement.csv are between links that do not meet", self.out)
-        self.assertIn("1 rows of movement.csv have a stop or a yield sign", self.out)
+        self.assertIn("1 rows of movement.csv have a stop sign for all ways", self.out)
         self.assertIn("1 rows of signal_phase_mvmt.csv name no turn of movement.csv", self.out)
         # 50 s of green and 10 of clearance in 40: 30 of green are left, 12 and 18
         self.made(signal_timing_plan=PLAN.replace("60", "40"))

@@ -23,7 +23,7 @@ from ..network.options import Options
 from ..network.passages import Roads
 from ..network.route_splits import Route
 from ..network.steps import longest_step
-from .movements import all_turns, lanes_of, read_movements
+from .movements import all_turns, by_signs, lanes_of, read_movements
 from .net import Read
 from .signals import read_signals
 
@@ -43,7 +43,7 @@ def turn(folder: Path, read: Read, begins: set[str], ends: set[str], options: Op
     these nodes, and the zones of the network follow."""
     network, asked = read.network, options.crossings
     told = read_movements(folder, read)
-    held = read_signals(folder, told, read)
+    held = by_signs(told, network, read.units.jam) | read_signals(folder, told, read)
     turns = {pair: replace(one, held=held.get(pair)) for pair, one in all_turns(told, network).items()}
     movements = Movements(turns, lanes_of(network, read.units.jam, turns))
     wanted = chosen(network, movements, ends, asked.turns)

@@ -6,13 +6,16 @@ but not back.
 """
 from __future__ import annotations
 
-from collections.abc import Iterator, Mapping
+from collections.abc import Iterable, Iterator, Mapping
 from dataclasses import dataclass, field
 from fractions import Fraction
 from pathlib import Path
 
 from ..files import Row
-from ..network.crossings.movements import Movement, Pair
+from ..formats import MINUTE_MS
+from ..network.crossings.movements import Held, Movement, Pair
+from ..network.crossings.options import MINOR_GAP
+from ..network.cycles import Green
 from ..network.network import Network
 from ..tables import read, whole_numbers
 from .fields import EMPTY, fraction_or_none, number_or_none
@@ -23,7 +26,8 @@ NAMES = {"mvmt_id": ("movement_id", "id", "mvmt"), "node_id": ("node",),
          "ob_link_id": ("ob_link", "outbound_link_id", "out_link_id", "to_link_id"),
          "type": ("mvmt_type", "movement_type"), "ctrl_type": ("control_type", "control", "ctrl")}
 SIGNALS = ("signal", "signal_with_rtor", "signalized")
-SIGNS = ("stop", "stop_2_way", "stop_4_way", "yield")
+SIGNS = ("stop", "stop_2_way", "yield")
+ALL_STOP = "stop_4_way"
 MOST_LANE = 30
 
 
@@ -36,6 +40,8 @@ class Told:
     types: dict[Pair, str] = field(default_factory=dict)
     ids: dict[str, Pair] = field(default_factory=dict)
     signals: set[Pair] = field(default_factory=set)
+    signs: set[Pair] = field(default_factory=set)
+    """Those that yield at a sign."""
 
 
 def read_movements(folder: Path, made: Read) -> Told:
@@ -46,7 +52,7 @@ def read_movements(folder: Path, made: Read) -> Told:
     table = read(path, ("ib_link_id", "ob_link_id"), NAMES, made.units.reading)
     made.notes += table.notes
     whole_numbers(table.rows, ("mvmt_id", "node_id", "ib_link_id", "ob_link_id"))
-    unknown = signs = 0
+    unknown = all_stop = 0
     for row in table.rows:
         pair = pair_of(row, made.network)
         if pair is None:
@@ -58,10 +64,13 @@ def read_movements(folder: Path, made: Read) -> Told:
         control = row.text("ctrl_type", "").lower()
         if control in SIGNALS:
             told.signals.add(pair)
-        signs += control in SIGNS
+        elif control in SIGNS:
+            told.signs.add(pair)
+        all_stop += control == ALL_STOP
     made.notes += [f"{count} rows of movement.csv {why}" for count, why in
                    ((unknown, "are between links that do not meet, or are not for cars, and are left out"),
-                    (signs, "have a stop or a yield sign, which is not carried: vehicles there do not wait")) if count]
+                    (all_stop, "have a stop sign for all ways, which is not carried: vehicles there do not wait"))
+                   if count]
     return told
 
 
@@ -111,6 +120,27 @@ def all_turns(told: Told, network: Network) -> dict[Pair, Movement]:
                 onward = [pair for pair in pairs if network.roads[pair[1]].head != network.roads[approach].tail]
                 made |= {pair: Movement(*pair) for pair in onward or pairs}
     return made
+
+
+def by_signs(told: Told, network: Network, jam: Fraction) -> dict[Pair, Held]:
+    """How turns yield at signs: to those from elsewhere at their node that have neither sign nor signal and go straight
+    on or to the left or have the same exit, a turn to the right to those with its exit alone."""
+    made: dict[Pair, Held] = {}
+    first = [pair for pair in told.turns if pair not in told.signs and pair not in told.signals]
+    for pair in told.signs:
+        others = [other for other in first if other[0] != pair[0]
+                  and network.roads[other[0]].head == network.roads[pair[0]].head
+                  and (other[1] == pair[1] or "right" not in (told.types[pair], told.types[other]))]
+        if others:
+            made[pair] = Held((), (Green(MINUTE_MS, 0, MINUTE_MS),), tuple(others),
+                              lanes_with(others, told, network, jam), MINOR_GAP)
+    return made
+
+
+def lanes_with(turns: Iterable[Pair], told: Told, network: Network, jam: Fraction) -> tuple[tuple[str, int], ...]:
+    """The lanes of some turns that are told, each an approach and a number."""
+    return tuple(dict.fromkeys((pair[0], lane) for pair in turns for lane in told.turns[pair].lanes
+                               or range(max(1, round(network.roads[pair[0]].jam / jam)))))
 
 
 def lanes_of(network: Network, jam: Fraction, turns: Mapping[Pair, Movement]) -> dict[str, int]:

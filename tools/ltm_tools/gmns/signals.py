@@ -15,7 +15,7 @@ from ..files import Row
 from ..network.crossings.movements import Held, Pair
 from ..network.cycles import Green
 from ..tables import Table, read, whole_numbers
-from .movements import Told
+from .movements import Told, lanes_with
 from .net import Read, file_of
 
 PHASE, PLAN = "signal_timing_phase.csv", "signal_timing_plan.csv"
@@ -173,9 +173,7 @@ def yielded(pair: Pair, greens: dict[Pair, dict[str, list[Green]]], told: Told,
     others = [other for other, of in greens.items() if other[0] != pair[0] and roads[other[0]].head == node
               and any(overlap(one, green) for one in greens[pair][PERMITTED] for some in of.values() for green in some)
               and (other[1] == pair[1] if told.types[pair] == "right" else told.types[other] in ("thru", "right"))]
-    lanes = [(other[0], lane) for other in others
-             for lane in told.turns[other].lanes or range(max(1, round(roads[other[0]].jam / made.units.jam)))]
-    return tuple(others), tuple(dict.fromkeys(lanes))
+    return tuple(others), lanes_with(others, told, made.network, made.units.jam)
 
 
 def overlap(one: Green, other: Green) -> bool:
