@@ -18,7 +18,7 @@ def fitted(*metres: int, step: int = 5000) -> Fit:
 
 def used(fit: Fit, names: str, units: int = 1000) -> Used:
     """A route, with the time that it took before the fit."""
-    return Used(tuple(names.split()), sum((fit.raw.roads[name].time for name in names.split()), Fraction(0)), units)
+    return Used(tuple(names.split()), tuple(fit.raw.roads[name].time for name in names.split()), units)
 
 
 def off(fit: Fit, route: Used) -> Fraction:

@@ -24,16 +24,22 @@ HOLD = 0.002  # how much a change of a road by a share of its time counts, besid
 
 @dataclass(frozen=True, slots=True)
 class Used:
-    """A route over roads of the fitted network, the time in ms that it took in the source, and how many drive it."""
+    """A route over roads of the fitted network, the times in ms that its roads took in the source, and how many drive
+    it."""
 
     roads: tuple[str, ...]
-    time: Fraction
+    times: tuple[Fraction, ...]
     units: int
+
+    @property
+    def time(self) -> Fraction:
+        """The time that it took in the source."""
+        return sum(self.times, Fraction(0))
 
 
 def balance(fit: Fit, routes: Iterable[Used]) -> None:
     """Changes the roads of a fitted network for its most used routes, and notes each change."""
-    chosen = sorted((route for route in routes if route.roads and route.time and route.units),
+    chosen = sorted((route for route in routes if route.roads and any(route.times) and route.units),
                     key=lambda route: (-route.units, route.roads))[:MOST_ROUTES]
     off = [float(sum((fit.network.roads[name].time for name in route.roads), Fraction(0)) - route.time)
            for route in chosen]

@@ -54,14 +54,16 @@ def check_green(link: str, green: Green) -> None:
 def exit_limits(plan: Plan, *, capacity: int, step_ms: int, slots: int) -> list[Limit]:
     """The exit limits of a plan, for a link that takes a capacity (thousandths) in a slot; spans of slots with the same
     limit are one. A slot that is green as a whole has none."""
-    spans: list[list[int]] = []
+    limits: list[Limit] = []
+    first = last = units = -1
     let = Let(plan, capacity, step_ms)
-    for first, last, units in let.spans(max(0, plan.start_ms // step_ms), min(slots, -(-plan.end_ms // step_ms))):
-        if spans and spans[-1][1] == first and spans[-1][2] == units:
-            spans[-1][1] = last
-        else:
-            spans.append([first, last, units])
-    return [Limit(plan.link, first, last, units) for first, last, units in spans]
+    for start, end, count in let.spans(max(0, plan.start_ms // step_ms), min(slots, -(-plan.end_ms // step_ms))):
+        if start != last or count != units:
+            if first >= 0:
+                limits.append(Limit(plan.link, first, last, units))
+            first, units = start, count
+        last = end
+    return limits if first < 0 else [*limits, Limit(plan.link, first, last, units)]
 
 
 class Let:

@@ -103,7 +103,7 @@ def used_routes(fit: Fit, routes: Iterable[tuple[tuple[str, ...], int]]) -> Iter
     source = source_of(fit.raw, fit.network, fit, same, same)
     roads = Roads.of(diagram(road, fit.step) for road in fit.network.roads.values())
     for names, units in routes:
-        yield Used(source.route(names, roads), sum((fit.raw.roads[name].time for name in names), Fraction(0)), units)
+        yield Used(source.route(names, roads), tuple(fit.raw.roads[name].time for name in names), units)
 
 
 def source_of(raw: Network, network: Network, fit: Fit | None, link_names: dict[str, str],
