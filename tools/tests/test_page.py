@@ -10,9 +10,10 @@ from pathlib import Path
 from typing import Any
 from unittest import mock
 
+import commands
 import made_gmns
 from browser import ENTER, RIGHT, BrowserTest
-from support import FolderTest
+from support import BUILT, EXAMPLES, FolderTest, needs_program
 from test_delay import DATA, read
 from test_from_sumo import edge
 from ltm_tools import cli
@@ -53,6 +54,17 @@ class Files(FolderTest):
         told = json.loads(text.partition('id="data">')[2].partition("</script>")[0])
         self.assertEqual(told["title"], "a <b> & c")
         self.assertEqual([link["name"] for link in told["cases"][0]["links"]], ["a", "b"])
+
+    @needs_program
+    def test_gap(self) -> None:
+        """That of docs/MODEL.md, worked by hand: 65.275 vehicle seconds are the least, and the gap is -0.375."""
+        case = str(EXAMPLES / "spillback")
+        text = write_page(self.folder, case, "--gap", "--program", str(BUILT)).read_text()
+        told = json.loads(text.partition('id="data">')[2].partition("</script>")[0])["cases"][0]["totals"]
+        self.assertEqual(told[3:5], [["least, vehicle seconds", "65.28"], ["gap, vehicle seconds", "-0.38"]])
+        status, _, fault = commands.run("page", *with_curves("spillback"), "--gap", "-o", f"{self.folder}/none.html")
+        self.assertEqual((status, fault.count("\n")), (1, 1))
+        self.assertIn("it goes with no curve file", fault)
 
     def test_no_d3(self) -> None:
         (self.folder / "d3.js").write_text("// https://d3js.org v3.5.17 Copyright\n")

@@ -50,6 +50,13 @@ def add_each_link_argument(parser: argparse.ArgumentParser) -> None:
                         help="tell each link by itself (a link that was cut before a crossing is told with its turns)")
 
 
+def add_gap_argument(parser: argparse.ArgumentParser) -> None:
+    """Whether the gap is told."""
+    parser.add_argument("--gap", action="store_true",
+                        help="tell also the least that all could spend at the link times of each loading, and the gap;"
+                        " of thousands of links this takes minutes")
+
+
 def add_format_arguments(parser: argparse.ArgumentParser) -> None:
     """The options `--format` and `--output`, for commands that write a table."""
     parser.add_argument("--format", choices=FORMATS, default="text",

@@ -14,9 +14,10 @@ from ..listing import Cell, TimeUnit, csv_text, json_text, seconds, text_table, 
 from ..loading.compare import Comparison, Pairs, change, most_changed, of_versions
 from ..loading.remaining import told_apart
 from ..loading.sides import side
+from ..loading.told import check_gap
 from ..network.source import approaches_of
-from .arguments import (add_each_link_argument, add_format_arguments, add_program_argument, add_start_argument,
-                        check_every, minutes, whole)
+from .arguments import (add_each_link_argument, add_format_arguments, add_gap_argument, add_program_argument,
+                        add_start_argument, check_every, minutes, whole)
 
 NAME = "compare"
 SUMMARY = ("tell what two cases, or two versions of one, differ in: vehicle time, delay by link, arrivals by time, the"
@@ -51,9 +52,7 @@ def add_arguments(parser: argparse.ArgumentParser) -> None:
                         help="arrivals every so many minutes (5)")
     parser.add_argument("--links", metavar="N", type=whole, default=10,
                         help="in text, how many links that changed most (10)")
-    parser.add_argument("--gap", action="store_true",
-                        help="tell also the least that all could spend at the link times of each loading, the gap, and"
-                        " who is late by any route; of thousands of links this takes minutes")
+    add_gap_argument(parser)
     parser.add_argument("--table", choices=TABLES, default="links", help="which table in CSV (links)")
     add_each_link_argument(parser)
     add_format_arguments(parser)
@@ -96,8 +95,7 @@ def by_folders(args: argparse.Namespace) -> tuple[Comparison, tuple[str, str]]:
         raise Fault("there is nothing to compare: name the folder of another case, or a --script of which --versions"
                     " tells" if args.other is None
                     else "--versions tells of a --script")
-    if args.gap and (args.curves, args.other_curves) != (None, None):
-        raise Fault("--gap is told by the program of loadings that it makes: it goes with no curve file")
+    check_gap(args.gap, args.curves, args.other_curves)
     one = side(args.case, args.curves, args.program, args.gap)
     other = side(args.other, args.other_curves, args.program, args.gap)
     return Comparison(one, other), (args.case, args.other)

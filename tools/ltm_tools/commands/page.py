@@ -9,8 +9,9 @@ from ..files import readable, write_text
 from ..formats import units_of
 from ..loading.curves import Summed
 from ..loading.loaded import Loaded, loaded
+from ..loading.told import check_gap, told_gap
 from ..show.page import find_d3, page
-from .arguments import add_curves_arguments, add_each_link_argument, add_start_argument
+from .arguments import add_curves_arguments, add_each_link_argument, add_gap_argument, add_start_argument
 
 NAME = "page"
 SUMMARY = "write one HTML file that shows the network over time, the curves of each link, and the table of queues"
@@ -34,6 +35,7 @@ def add_arguments(parser: argparse.ArgumentParser) -> None:
     parser.add_argument("--least", metavar="VEHICLES", default="1",
                         help="how many vehicles make a queue in the table (1)")
     add_each_link_argument(parser)
+    add_gap_argument(parser)
     parser.add_argument("--names", metavar="NAME", nargs=2, help="what the two cases are called on the switch")
     parser.add_argument("--title", help="the title (else the folder's name)")
     parser.add_argument("--d3", metavar="FILE", help="the library d3 (else $LTM_D3, or that of Debian's package"
@@ -42,6 +44,7 @@ def add_arguments(parser: argparse.ArgumentParser) -> None:
 
 def run(args: argparse.Namespace) -> int:
     library = find_d3(args.d3)
+    check_gap(args.gap, args.curves, args.other_curves)
     asked = [(args.case, args.curves)] + ([(args.other, args.other_curves)] if args.other is not None else [])
     folders = [folder for folder, _ in asked]
     start = start_of(args.start, *folders)
@@ -50,6 +53,7 @@ def run(args: argparse.Namespace) -> int:
     called = [os.path.basename(os.path.abspath(folder)) for folder in folders]
     names = [readable(name) for name in args.names or called]
     title = readable(args.title or called[0])
+    gaps = [told_gap(folder, args.program) if args.gap else None for folder in folders]
     write_text(args.output, page(both, folders, names, start, max(1, units_of(args.least)), title, library,
-                                 args.each_link))
+                                 args.each_link, gaps))
     return 0

@@ -6,13 +6,12 @@ from collections.abc import Mapping, Sequence
 from typing import NamedTuple
 
 from ..case import Case
-from ..program import output
-from .answers import Gap, gap_of
+from .answers import Gap
 from .counts import Counts, as_list
 from .delay import Report, report
 from .loaded import Loaded, loaded, told_delay
 from .times import at
-from .told import Program, ToldCurves
+from .told import Program, ToldCurves, told_gap
 
 
 class Side(NamedTuple):
@@ -38,7 +37,7 @@ def side(folder: str, curves: str | None, program: Program, gap: bool = False) -
     named = None if program is None else os.fspath(program)
     loading = loaded(folder, curves, named)
     found = of_curves(loading, told_delay(loading, folder, curves, named))
-    return found._replace(gap=gap_of(output(folder, "gap", program=named).decode().split())) if gap else found
+    return found._replace(gap=told_gap(folder, named)) if gap else found
 
 
 def of_curves(loading: Loaded, told: Report | None = None) -> Side:

@@ -9,8 +9,9 @@ from collections.abc import Callable, Mapping, Sequence
 from typing import TYPE_CHECKING
 
 from ..case import Case
+from ..errors import Fault
 from ..program import output
-from .answers import Names, Totals, all_delays_of, totals_of, two_of
+from .answers import Gap, Names, Totals, all_delays_of, gap_of, totals_of, two_of
 from .counts import Counts, less, zeros
 from .curves import KINDS, Curves
 from .delay import Report, demand_of
@@ -85,3 +86,14 @@ def told(case: Case, folder: str, program: Program, make: Callable[[], Curves]) 
     for name, line in zip(origins, lines[2 + len(links):]):
         _, sums["dep", name] = two_of(line, b"left")
     return ToldCurves(case, totals_of(totals), report, sums, make)
+
+
+def told_gap(folder: str, program: Program) -> Gap:
+    """What all spend in the loading of a case against the least at its link times, as `ltm gap` tells it."""
+    return gap_of(output(folder, "gap", program=program).decode().split())
+
+
+def check_gap(gap: bool, *curves: str | None) -> None:
+    """A Fault where the gap is asked for beside a curve file, of which the program makes no loading."""
+    if gap and curves != (None,) * len(curves):
+        raise Fault("--gap is told by the program of loadings that it makes: it goes with no curve file")

@@ -8,6 +8,7 @@ import json
 import os
 import re
 import sys
+from collections.abc import Sequence
 from pathlib import Path
 
 from ..case.places import Places
@@ -15,6 +16,7 @@ from ..errors import Fault
 from ..files import read_text
 from ..listing import TimeUnit, percent, time_unit, vehicles
 from ..loading import delay
+from ..loading.answers import Gap
 from ..loading.counts import Counts, as_list, total
 from ..loading.loaded import Loaded
 from ..loading.queues import Queue, queues
@@ -62,7 +64,6 @@ def told_case(one: Loaded, folder: str, name: str, start: int, least: int, place
     number = {node: index for index, node in enumerate(case.nodes)}
     both = [delay.checked(curves, link) for link in case.links]
     rows = delay.demand_of(case)
-    told = delay.report(curves, case)
     return {
         "name": name, "step": curves.step_ms, "slots": curves.boundaries - 1, "start": start,
         **told_network(folder, case, places, bent),
@@ -73,7 +74,6 @@ def told_case(one: Loaded, folder: str, name: str, start: int, least: int, place
         "queues": [told_queue(queue, unit) for queue in queues(curves, case, least)],
         **({"joined": [told_queue(queue, unit) for queue in queues(curves, case, least, approaches)],
             "approaches": numbered(case, approaches)} if approaches else {}),
-        "totals": totals(one, told, unit),
     }
 
 
@@ -92,12 +92,13 @@ def told_queue(queue: Queue, unit: TimeUnit) -> dict[str, object]:
             "share": share, "delay": queue.delay, "told": format(unit.show(queue.delay), "f")}
 
 
-def totals(one: Loaded, told: delay.Report, unit: TimeUnit) -> list[tuple[str, str]]:
-    """The numbers above the map."""
+def totals(one: Loaded, told: delay.Report, gap: Gap | None, unit: TimeUnit) -> list[tuple[str, str]]:
+    """The numbers above the map, the gap with them where it was asked for."""
     arrived = int(one.curves.all_arrived()[-1])
-    return [(f"{name}, {unit.name}", format(unit.show(time), "f"))
-            for name, time in (("spent", told.spent), ("queued", told.queued), ("waited", told.waited))] + [
-                ("arrived, vehicles", format(vehicles(arrived), "f"))]
+    times = [("spent", told.spent), ("queued", told.queued), ("waited", told.waited)]
+    times += [("least", gap.least), ("gap", gap.gap)] if gap else []
+    return [(f"{name}, {unit.name}", format(unit.show(time), "f")) for name, time in times] + [
+        ("arrived, vehicles", format(vehicles(arrived), "f"))]
 
 
 def busiest(one: Loaded) -> int:
@@ -107,15 +108,18 @@ def busiest(one: Loaded) -> int:
 
 
 def page(both: list[Loaded], folders: list[str], names: list[str], start: int, least: int, title: str,
-         library: str, each_link: bool = False) -> str:
+         library: str, each_link: bool = False, gaps: Sequence[Gap | None] = (None, None)) -> str:
     """The text of the page; links that were cut before a crossing are told with their turns, or with `each_link` each
     by itself alone."""
     places, bent = placed(folders, [one.case for one in both])
     reports = [delay.report(one.curves, one.case) for one in both]
     unit = time_unit(*(report.spent for report in reports))
+    cases = [told_case(one, folders[index], name, start, least, places[index], bent, unit, each_link)
+             for index, (one, name) in enumerate(zip(both, names))]
+    for case, one, report, gap in zip(cases, both, reports, gaps):
+        case["totals"] = totals(one, report, gap, unit)
     told = {"title": title, "least": format(vehicles(least), "f"), "unit": unit.name, "boundary": busiest(both[0]),
-            "cases": [told_case(one, folders[index], name, start, least, places[index], bent, unit, each_link)
-                      for index, (one, name) in enumerate(zip(both, names))]}
+            "cases": cases}
     styles, scripts = ("".join(read_text(WEB / name) for name in names)
                        for names in (("shared.css", "page.css"), (*SHARED_SCRIPTS, "page.js")))
     parts = {"TITLE": html.escape(title), "STYLE": styles,
