@@ -192,7 +192,8 @@ class Sumo(SumoTest):
 
     def test_other_projections_and_none_stay_metres_of_the_net(self) -> None:
         for location in ("", '<location netOffset="7,8" projParameter="+proj=tmerc +lat_0=0 +lon_0=9 +ellps=bessel"/>',
-                         '<location netOffset="x" projParameter="!"/>'):
+                         '<location netOffset="x" projParameter="!"/>',
+                         '<location netOffset="1e99999999,0" projParameter="!"/>'):
             places = self.placed(location)
             self.assertEqual((places.crs, places.of["D"]), (None, (300.0, 250.3)))
 

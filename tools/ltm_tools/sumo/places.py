@@ -3,9 +3,9 @@ from __future__ import annotations
 
 import math
 import xml.etree.ElementTree as ElementTree
-from fractions import Fraction
 
 from ..case.places import DEGREES, Line
+from ..formats import exact_or_none
 from ..network.placing import Map
 from ..network.projection import projection_of
 
@@ -17,10 +17,10 @@ def map_of(location: ElementTree.Element) -> Map:
     where its projection is UTM or none. Else they stay metres of the net."""
     told = location.get("projParameter", NO_PROJECTION)
     projection = projection_of(told)
-    try:
-        east, north = map(Fraction, location.get("netOffset", "0,0").split(",")[:2])
-    except (ValueError, ZeroDivisionError):
+    added = [exact_or_none(text) for text in location.get("netOffset", "0,0").split(",")[:2]]
+    if len(added) < 2 or None in added:
         return Map()
+    east, north = (number for number in added if number is not None)
     if projection is not None:
         return Map((east, north), projection, DEGREES)
     return Map((east, north)) if told == NO_PROJECTION else Map()
