@@ -190,6 +190,13 @@ class Sumo(SumoTest):
         self.assertAlmostEqual(places.of["A"][1], 43 + 38 / 60 + 33.24 / 3600, 5)
         self.assertEqual(len(places.shapes["in"]), 3)
 
+    def test_off_the_earth(self) -> None:
+        """A place from which no degrees can be worked out is told, and the case is made without places."""
+        self.made(net='<location netOffset="1e10,0" projParameter="+proj=utm +zone=32 +ellps=WGS84"/>' + JUNCTIONS
+                  + CURVED + WAYS)
+        self.assertIn("nodes.csv is not written, as the projection has nothing where nodes lie: A, B, ", self.out)
+        self.assertFalse((self.folder / "case" / "nodes.csv").exists())
+
     def test_other_projections_and_none_stay_metres_of_the_net(self) -> None:
         for location in ("", '<location netOffset="7,8" projParameter="+proj=tmerc +lat_0=0 +lon_0=9 +ellps=bessel"/>',
                          '<location netOffset="x" projParameter="!"/>',
