@@ -5,15 +5,16 @@ import unittest
 
 import commands
 from support import BUILT, FolderTest, needs_splits
-from test_assign import SIGNALS, TWO, needs_numpy
+from test_assign import LINKS, SIGNALS, TWO, needs_numpy
 from test_cluster import ClusterTest, needs_dask
 from ltm_tools import libraries
-from ltm_tools.case import Case, edits
+from ltm_tools.case import Case, Split, edits
 from ltm_tools.loading.session import Session
 
 if not libraries.missing(("numpy",)):
     from ltm_tools.assign.assigning import Options
-    from ltm_tools.assign.closing import ALL, NOBODY as NONE, Closure, respond
+    from ltm_tools.assign.closing import ALL, NOBODY as NONE, Base, Closure, respond
+    from ltm_tools.assign.shares import of_splits
 
 # TWO with the shares at which nobody gains. Its hours are 60 x 70 s, by `fast` with half a minute in its queue, and
 # 120 x 100 s. Then `fast` is shut for three minutes from 1:00 on:
@@ -76,6 +77,25 @@ class ByHand(FolderTest):
             self.assertEqual(done, [] if informed == NONE else list(range(8)))
             self.assertEqual([(edit["kind"], edit["rows"][:2]) for edit in found.edits],  # type: ignore[index]
                              [] if informed == NONE else [("splits", [[0, {"fast": 1}], [60, {"slow": 1000}]])])
+
+    def test_edits_lead_on(self) -> None:
+        """Where the case has no rows they are there before others lead to them, also where one leads to the other now
+        and the other to the one later. In the second minute half a vehicle a second drives 50 s, by m, n, k and l."""
+        ends = {"fast": "o,d", "om": "o,m", "mn": "m,n", "nm": "n,m", "md": "m,d", "nk": "n,k", "kl": "k,l",
+                "ld": "l,d"}
+        case = Case.read(self.case(**{
+            **ASSIGNED, "links": LINKS + "".join(f"{name},{end},100,36,18,300\n" for name, end in ends.items()),
+            "demand": "origin,destination,from_slot,to_slot,vehicles\no,d,60,120,30\n",
+            "splits": "node,destination,from_slot,weights\no,d,0,fast=1\n"}))
+        base = Base(case, Options(period_ms=60_000))
+        rows = [Split(node, "d", slot, {link: 1}) for node, slot, link in (
+            ("o", 0, "fast"), ("o", 60, "om"), ("m", 0, "md"), ("m", 60, "mn"), ("n", 0, "nm"), ("n", 60, "nk"))]
+        weights = of_splits(base.net, rows, len(base.weights), base.period)
+        with Session(self.folder / "case", program=BUILT) as session:
+            for edit in base._edits(weights, 0):
+                session.edit(edit)
+            session.settle()
+            self.assertEqual(session.delay().spent, 30 * 50 * 10**6)
 
     def test_faults(self) -> None:
         self.case(**ASSIGNED)

@@ -21,7 +21,7 @@ from .engine import Engine
 from .looking import Look, Looker, Seen
 from .net import WHOLE, Net, Whole
 from .regret import lost_times, total
-from .shares import Pair, PairRows, check_ways, of_splits, periods_of, rounded, rows_of, with_last
+from .shares import Pair, PairRows, check_ways, free_flow, of_splits, periods_of, rounded, rows_of, with_last
 from .steps import stepped
 
 NOBODY, HALF, ALL = 0, 50, 100
@@ -143,36 +143,23 @@ class Base:
         return best
 
     def _edits(self, weights: Whole, first: int) -> list[Edit]:
-        """Edits that set these weights from period `first` on, where they are others than those of before, or where the
-        case has no rows and they lead there: those come before what leads to them. Rows before that period stay as the
-        case has them."""
+        """Edits that set these weights from period `first` on, where they are others than those of before. Rows before
+        that period stay as the case has them."""
+        net, period, start = self.net, self.period, first * self.period
         own: dict[Pair, PairRows] = {}
         for row in sorted(self.case.standing_splits(), key=lambda row: row.from_slot):
             own.setdefault((row.node, row.destination), []).append((row.from_slot, dict(row.weights)))
-        start = first * self.period
-        whole, before = (rows_of(self.net, self.weights[span:], self.period) for span in (0, first))
-        later = rows_of(self.net, weights[first:], self.period)
-        after = {pair: [*(row for row in own.get(pair, whole[pair]) if row[0] < start),
-                        *((start + slot, of_row) for slot, of_row in rows)] for pair, rows in later.items()}
-        changed = [pair for pair, rows in later.items() if rows != before[pair]]
-        return [edits.splits(*pair, after[pair]) for pair in self._led_to(changed, after, own)]
-
-    def _led_to(self, changed: Sequence[Pair], after: Mapping[Pair, PairRows], own: Container[Pair]) -> list[Pair]:
-        """These pairs, and those without rows of their own to which rows lead, each of them before what leads to it."""
-        heads = {link.name: link.head for link in self.case.links}
-        found: dict[Pair, None] = {}
-        begun: set[Pair] = set()
-        stack = list(reversed(changed))
-        while stack:
-            pair = stack[-1]
-            begun.add(pair)
-            led_to = {(heads[name], pair[1]) for _, row in after[pair] for name in row if heads[name] != pair[1]}
-            wanted = sorted(one for one in led_to if one not in own and one not in begun)
-            if wanted and pair not in found:
-                stack += wanted[:1]
-            else:
-                found[stack.pop()] = None
-        return list(found)
+        whole, before = (rows_of(net, self.weights[span:], period) for span in (0, first))
+        changed = {pair: [*(row for row in own.get(pair, whole[pair]) if row[0] < start),
+                          *((start + slot, of_row) for slot, of_row in rows)]
+                   for pair, rows in rows_of(net, weights[first:], period).items() if rows != before[pair]}
+        free = rows_of(net, rounded(net, free_flow(net))[None], period)
+        places = {name: place for place, name in enumerate(net.node_names)}
+        ends = {name: place for place, name in enumerate(net.end_names)}
+        lacking = sorted(lacking_rows(self.case, changed, free, own),
+                         key=lambda pair: int(net.free_time[places[pair[0]], ends[pair[1]]]))
+        return [edits.splits(*pair, rows) for pair, rows in (*((pair, free[pair]) for pair in lacking),
+                                                             *changed.items())]
 
     def _regret(self, seen: Seen, weights: Whole, share: int) -> float:
         """The regret of the informed, who have these weights."""
@@ -182,6 +169,24 @@ class Base:
         """The weights of the informed after a step; those of earlier periods stay."""
         made = with_last(rounded(self.net, stepped(self.net, seen.labels, weights, size)), last_period(seen.labels))
         return numpy.concatenate((self.weights[:first], made[first:]))
+
+
+def lacking_rows(case: Case, changed: Mapping[Pair, PairRows], free: Mapping[Pair, PairRows],
+                 own: Container[Pair]) -> list[Pair]:
+    """The pairs without rows of their own to which changed rows lead, or the free-flow routes that such pairs get."""
+    heads = {link.name: link.head for link in case.links}
+    found: dict[Pair, None] = {}
+    todo = [*changed.items()]
+    while todo:
+        (node, end), rows = todo.pop()
+        if (node, end) in changed and (node, end) not in own and (node, end) not in found:
+            found[node, end] = None
+            todo.append(((node, end), free[node, end]))
+        for head in dict.fromkeys(heads[name] for _, row in rows for name in row):
+            if head != end and (head, end) not in own and (head, end) not in found:
+                found[head, end] = None
+                todo.append(((head, end), free[head, end]))
+    return list(found)
 
 
 def respond(case: Case, closure: Closure, informed: int, options: Options = RESPONDING,
