@@ -9,8 +9,8 @@ use std::sync::atomic::Ordering::SeqCst;
 /// next one when it has a pair.
 const WHILE_READING: u64 = 2;
 
-/// How many workers are called by a settle that finds slots and rows wide: one more never helped.
-const WHERE_WIDE: u64 = 3;
+/// How many workers are called by a settle that finds slots and rows wide: more take more time and save none.
+const WHERE_WIDE: u64 = 1;
 
 /// How many workers are called, how many have come, how many pairs workers have committed, and whether a batch left something to
 /// do. These are hints: any thread may change them at any time, so nothing is claimed of them, and only who works when depends on
