@@ -116,11 +116,6 @@ def elements(path: Path, depth: int = 1) -> Iterator[ElementTree.Element]:
         raise Fault(f"{path}: it cannot be read: {error}; iconv turns it into UTF-8") from None
 
 
-def root_of(path: Path) -> str:
-    """The name of a file's root element."""
-    return next(elements(path)).tag
-
-
 def number(element: ElementTree.Element, name: str, what: str) -> Fraction:
     """A number that an attribute has."""
     text = element.get(name, "")
