@@ -1,18 +1,20 @@
 -- What moves does not depend on the counts, and inputs where nothing has been counted can be solved where the others can.
-use Rattle.std.proofs.Common.{◌≡◌, ℕ, ◌+◌, ◌-◌, ◌*◌, ◌/◌, ◌<◌, cond, List, drop, length, slice_index, arith, ap, sym, ◌∙◌}
+use Rattle.std.proofs.Common.{◌≡◌, ℕ, ◌+◌, ◌-◌, ◌*◌, ◌/◌, ◌<◌, cond, false, List, drop, length, slice_index, arith, refl, ap, sym, ◌∙◌}
 use Rattle.std.proofs.Math.Logic.{∥∥₁_map}
 use Rattle.std.proofs.lemmas.List.{ext_get_or, length-take, length-drop}
 use Rattle.ltm_units.specs.Sums.{sum_below}
 use Rattle.ltm_units.specs.Nested.{nested_split}
 use Rattle.ltm_units.proofs.Sums.{sum_below-same}
 use Rattle.ltm_node.specs.declared.shape.NodeShape.{NodeShape}
-use Rattle.ltm_node.specs.Shape.{is_own, weights_place}
+use Rattle.ltm_node.specs.Shape.{width, is_own, weights_place}
 use Rattle.ltm_node.specs.Inputs.{Inputs, sending, capacity, weights}
 use Rattle.ltm_node.specs.Demands.{part, to_sink, sent, sent_into, demands}
 use Rattle.ltm_node.specs.Step.{parts_into, turned, moved, sunk, gone, come, sunk_in_all, StepShares}
 use Rattle.ltm_node.specs.Solvable.{IsSolvable}
 use Rattle.ltm_node.specs.Moving.{Agrees}
 use Rattle.ltm_node.specs.Laws.{IsUncounted, MovesAdd}
+use Rattle.ltm_node.specs.Uncounted.{uncounted}
+use Rattle.ltm_node.proofs.AsRead.{width_as, sending_as, supply_as, capacity_as, weight_as, left_as, entered_as, arrived_as}
 use Rattle.ltm_node.proofs.Demanded.{shares_agree}
 use Rattle.ltm_node.proofs.Ranges.{weight_of}
 use Rattle.ltm_node.proofs.Moved.{parts_long, parts_at}
@@ -146,3 +148,17 @@ uncounted_solvable n m h s =
       entered_counts = λ j d l x. omega (arith, h.entered j d (omega arith) (omega arith));
       arrived_count = omega (arith, h.arrived);
     }
+
+-- inputs where nothing has been counted are such
+pub uncounted_is : (n : Inputs) → length n.row ≡ width n.shape → IsUncounted n (uncounted n)
+uncounted_is n long = record {
+  shape = refl;
+  width = width_as false n.shape n.row long;
+  sending = λ i d l x. sending_as false n i d long l x;
+  supply = λ j l. supply_as false n j long;
+  capacity = λ i l. capacity_as false n i long;
+  weight = λ d j x l. weight_as false n d j long;
+  left = λ i d l x. left_as false n i d long l x;
+  entered = λ j d l x. entered_as false n j d long l x;
+  arrived = arrived_as false n long;
+}

@@ -6,9 +6,11 @@ pub mod Moving
 pub mod Narrow
 pub mod Outputs
 pub mod Portion
+pub mod Reading
 pub mod Shape
 pub mod Solution
 pub mod Solvable
 pub mod Splitting
 pub mod Step
 pub mod Tally
+pub mod Uncounted

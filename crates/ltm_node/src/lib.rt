@@ -15,6 +15,7 @@ mod narrow;
 mod node_step;
 mod outputs;
 mod portion;
+mod reading;
 mod shape;
 mod solved;
 mod split;
@@ -26,7 +27,7 @@ pub use laws::{
     moves_add, no_arrivals, nothing_lost, nothing_lost_in_all, nothing_moves, one_solution,
     one_step, same_shape, same_step, sending_kept, supply_kept,
 };
-pub use node_step::write_step;
+pub use node_step::{write_moves, write_step};
 pub use outputs::NodeOutputs;
 pub use shape::NodeShape;
 pub use solved::{Solved, solve};

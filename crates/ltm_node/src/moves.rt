@@ -34,13 +34,14 @@ ghost use Rattle.ltm_node.specs.Inputs.{sending, weights};
 ghost use Rattle.ltm_node.specs.Outputs.{entered_after_place};
 ghost use Rattle.ltm_node.specs.Solvable.{IsSolvable};
 ghost use Rattle.ltm_node.specs.Portion.{AreFractions};
+ghost use Rattle.ltm_node.specs.Reading.{row_as};
 
 mod sinks;
 mod ways;
 
-use crate::inputs::NodeInputs;
 use crate::loads::{Load, Part};
 use crate::portion::Portion;
+use crate::reading::{Numbers, Reading};
 use crate::shape::NodeShape;
 use crate::split::share_of_rest;
 use crate::tally::Tally;
@@ -51,15 +52,15 @@ use ways::{TwoWays, next_above};
 /// that they need not be read anew behind each write.
 #[derive(Clone, Copy)]
 pub struct Mover<'a> {
-    pub inputs: &'a NodeInputs,
+    pub inputs: &'a Reading<'a>,
     pub portion: Portion<'a>,
     shape: NodeShape,
-    numbers: &'a [u64],
+    numbers: Numbers<'a>,
     ghost solvable: { IsSolvable inputs.now },
     ghost fractions: { AreFractions inputs.now portion },
     ghost same_shape: { shape ≡ inputs.now.shape },
-    ghost same_row: { numbers.now ≡ inputs.now.row },
-    ghost long: { length numbers.now ≡ width shape },
+    ghost same_row: { inputs.now.row ≡ row_as numbers.counted shape numbers.row.now },
+    ghost long: { length numbers.row.now ≡ width shape },
 }
 
 impl Mover<'_> {
@@ -67,7 +68,7 @@ impl Mover<'_> {
 
     /// The arms of a node that move this portion of what they send.
     #[inline]
-    pub fn of<'a>(inputs: &'a NodeInputs, portion: Portion<'a>) -> Mover<'a>
+    pub fn of<'a>(inputs: &'a Reading<'a>, portion: Portion<'a>) -> Mover<'a>
         requires solvable { IsSolvable inputs.now }
         requires fractions { AreFractions inputs.now portion }
         ensures inputs { result.inputs.now ≡ inputs.now }
@@ -77,7 +78,7 @@ impl Mover<'_> {
             inputs,
             portion,
             shape: inputs.shape(),
-            numbers: inputs.row(),
+            numbers: inputs.numbers(),
         }
     }
 
@@ -94,7 +95,7 @@ impl Mover<'_> {
         Load {
             arm,
             destination,
-            amount: self.numbers[place],
+            amount: self.numbers.row[place],
         }
     }
 
@@ -118,7 +119,7 @@ impl Mover<'_> {
         ensures outs { length result.now ≡ self.now.inputs.now.shape.outs }
     {
         let from = self.shape.weights_place(destination);
-        &self.numbers[from..from + self.shape.outs as usize]
+        &self.numbers.row[from..from + self.shape.outs as usize]
     }
 
     /// The sum of the weights for a destination.

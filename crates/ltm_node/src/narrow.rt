@@ -8,25 +8,26 @@ ghost use Rattle.ltm_node.specs.Inputs.{sending};
 ghost use Rattle.ltm_node.specs.Solvable.{IsSolvable};
 ghost use Rattle.ltm_node.specs.Step.{IsNodeStep};
 ghost use Rattle.ltm_node.specs.Narrow.{IsNarrow, HaveLeft, HaveMoved, HaveShifted, leaves, laid, most_moved};
+ghost use Rattle.ltm_node.specs.Reading.{row_as};
 ghost use Rattle.ltm_units.specs.Bounds.{most_in_slot};
 
 mod readers;
 
-use crate::inputs::NodeInputs;
 use crate::outputs::NodeOutputs;
+use crate::reading::{Numbers, Reading};
 use crate::shape::NodeShape;
 
 /// A narrow node. The shape and the row of its inputs are at hand, so that they need not be read anew behind each write.
 #[derive(Clone, Copy)]
 pub struct Narrow<'a> {
-    pub inputs: &'a NodeInputs,
+    pub inputs: &'a Reading<'a>,
     pub shape: NodeShape,
-    numbers: &'a [u64],
+    numbers: Numbers<'a>,
     ghost solvable: { IsSolvable inputs.now },
     ghost narrow: { IsNarrow inputs.now.shape },
     ghost same_shape: { shape ≡ inputs.now.shape },
-    ghost same_row: { numbers.now ≡ inputs.now.row },
-    ghost long: { length numbers.now ≡ width shape },
+    ghost same_row: { inputs.now.row ≡ row_as numbers.counted shape numbers.row.now },
+    ghost long: { length numbers.row.now ≡ width shape },
 }
 
 /// What more than any narrow node moves is.
@@ -270,7 +271,7 @@ impl Narrow<'_> {
 /// Writes the counts at the end of the slot where the node is narrow, and its out-link can take all that is sent to it or
 /// is sent to by one arm alone; whether it did.
 #[inline]
-pub fn step_narrow(inputs: &NodeInputs, outputs: &mut NodeOutputs) -> bool
+pub fn step_narrow(inputs: &Reading<'_>, outputs: &mut NodeOutputs) -> bool
     requires solvable { IsSolvable inputs.now }
     requires room { counts_width inputs.now.shape ≤ outputs.old.room }
     ensures step { IsTrue result → IsNodeStep inputs.now outputs.new }
@@ -280,7 +281,7 @@ pub fn step_narrow(inputs: &NodeInputs, outputs: &mut NodeOutputs) -> bool
     if shape.outs > 1 || shape.destinations != 1 {
         return false;
     }
-    let numbers = inputs.row();
+    let numbers = inputs.numbers();
     let narrow = Narrow {
         inputs,
         shape,

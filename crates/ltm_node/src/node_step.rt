@@ -11,18 +11,43 @@ ghost use Rattle.ltm_node.specs.Shape.{counts_width};
 ghost use Rattle.ltm_node.specs.Demands.{sent, demands};
 ghost use Rattle.ltm_node.specs.Solvable.{IsSolvable};
 ghost use Rattle.ltm_node.specs.Step.{IsNodeStep};
+ghost use Rattle.ltm_node.specs.Uncounted.{uncounted};
 ghost use Rattle.ltm_node.specs.Moving.{HoldsSent, AreTotals, AreTotalsOf, FitsSupply, AsksFirst, priority_or_more};
 
 use crate::inputs::NodeInputs;
 use crate::narrow::step_narrow;
 use crate::outputs::NodeOutputs;
 use crate::portion::Portion;
+use crate::reading::Reading;
 use crate::turns::Turns;
 use ltm_shares::{ARMS, NodeDemands, OUTS, Sent, Shares, shares};
 
 /// Writes the node step of the inputs into the room of the outputs, as `solve` does, for a caller that keeps both. Takes no
 /// memory.
 pub fn write_step(inputs: &NodeInputs, outputs: &mut NodeOutputs)
+    requires solvable { IsSolvable inputs.now }
+    requires room { counts_width inputs.now.shape ≤ outputs.old.room }
+    ensures step { IsNodeStep inputs.now outputs.new }
+    ensures room { outputs.new.room ≡ outputs.old.room }
+{
+    step(&Reading::counted(inputs), outputs);
+}
+
+/// Writes what moves: the node step of the inputs where nothing has been counted. The counts of the inputs are not read,
+/// whatever they are. Takes no memory.
+pub fn write_moves(inputs: &NodeInputs, outputs: &mut NodeOutputs)
+    requires solvable { IsSolvable (uncounted inputs.now) }
+    requires room { counts_width inputs.now.shape ≤ outputs.old.room }
+    ensures step { IsNodeStep (uncounted inputs.now) outputs.new }
+    ensures room { outputs.new.room ≡ outputs.old.room }
+{
+    step(&Reading::uncounted(inputs), outputs);
+}
+
+/// Writes the node step of the inputs as they are read. It is in line in both calls, so that a narrow node does not ask
+/// whether its counts are read.
+#[inline(always)]
+fn step(inputs: &Reading<'_>, outputs: &mut NodeOutputs)
     requires solvable { IsSolvable inputs.now }
     requires room { counts_width inputs.now.shape ≤ outputs.old.room }
     ensures step { IsNodeStep inputs.now outputs.new }
@@ -36,7 +61,7 @@ pub fn write_step(inputs: &NodeInputs, outputs: &mut NodeOutputs)
 /// Writes the node step by the pass for all shapes. It is out of line, so that what it keeps at hand is not made ready for a
 /// narrow node.
 #[inline(never)]
-fn step_wide(inputs: &NodeInputs, outputs: &mut NodeOutputs)
+fn step_wide(inputs: &Reading<'_>, outputs: &mut NodeOutputs)
     requires solvable { IsSolvable inputs.now }
     requires room { counts_width inputs.now.shape ≤ outputs.old.room }
     ensures step { IsNodeStep inputs.now outputs.new }
@@ -53,7 +78,7 @@ fn step_wide(inputs: &NodeInputs, outputs: &mut NodeOutputs)
 
 /// Writes the node step where an out-link is short. It is out of line for the same reason.
 #[inline(never)]
-fn step_short(inputs: &NodeInputs, sent: Sent, totals: &[u64; OUTS], outputs: &mut NodeOutputs)
+fn step_short(inputs: &Reading<'_>, sent: Sent, totals: &[u64; OUTS], outputs: &mut NodeOutputs)
     requires solvable { IsSolvable inputs.now }
     requires sent { HoldsSent inputs.now sent }
     requires totals { AreTotals inputs.now sent (slice_index totals.now) }
@@ -70,7 +95,7 @@ fn step_short(inputs: &NodeInputs, sent: Sent, totals: &[u64; OUTS], outputs: &m
 }
 
 /// Writes the node step where each arm moves its share, and each part is rounded down by itself.
-fn step_by_part(inputs: &NodeInputs, shares: &Shares, outputs: &mut NodeOutputs)
+fn step_by_part(inputs: &Reading<'_>, shares: &Shares, outputs: &mut NodeOutputs)
     requires solvable { IsSolvable inputs.now }
     requires shares { AreShares (demands inputs.now) shares.now.denominator (slice_index shares.now.numerators) }
     requires by_part { inputs.now.shape.by_turn ≡ false }
@@ -83,7 +108,7 @@ fn step_by_part(inputs: &NodeInputs, shares: &Shares, outputs: &mut NodeOutputs)
 }
 
 /// Writes the node step where each arm moves its share, and each turn is rounded down whole.
-fn step_by_turn(inputs: &NodeInputs, shares: &Shares, sent: Sent, outputs: &mut NodeOutputs)
+fn step_by_turn(inputs: &Reading<'_>, shares: &Shares, sent: Sent, outputs: &mut NodeOutputs)
     requires solvable { IsSolvable inputs.now }
     requires shares { AreShares (demands inputs.now) shares.now.denominator (slice_index shares.now.numerators) }
     requires by_turn { inputs.now.shape.by_turn ≡ true }
@@ -98,7 +123,7 @@ fn step_by_turn(inputs: &NodeInputs, shares: &Shares, sent: Sent, outputs: &mut 
 }
 
 /// What all arms send into each out-link.
-fn add_up(inputs: &NodeInputs, sent: &Sent) -> [u64; OUTS]
+fn add_up(inputs: &Reading<'_>, sent: &Sent) -> [u64; OUTS]
     requires solvable { IsSolvable inputs.now }
     requires sent { HoldsSent inputs.now sent.now }
     ensures { AreTotals inputs.now sent.now (slice_index result) }
@@ -113,7 +138,7 @@ fn add_up(inputs: &NodeInputs, sent: &Sent) -> [u64; OUTS]
 /// Adds what one arm more sends into each out-link. It is done for all out-links that a node may have, so that it takes no
 /// loop; what is added up beyond those of the node is not used.
 #[inline]
-fn add_arm(inputs: &NodeInputs, sent: &Sent, arm: u32, totals: &mut [u64; OUTS])
+fn add_arm(inputs: &Reading<'_>, sent: &Sent, arm: u32, totals: &mut [u64; OUTS])
     requires solvable { IsSolvable inputs.now }
     requires sent { HoldsSent inputs.now sent.now }
     requires arm { arm < inputs.now.shape.arms }
@@ -130,7 +155,7 @@ fn add_arm(inputs: &NodeInputs, sent: &Sent, arm: u32, totals: &mut [u64; OUTS])
 }
 
 /// Whether no out-link gets more than it can take where each arm sends all.
-fn fits_supply(inputs: &NodeInputs, sent: &Sent, totals: &[u64; OUTS]) -> bool
+fn fits_supply(inputs: &Reading<'_>, sent: &Sent, totals: &[u64; OUTS]) -> bool
     requires solvable { IsSolvable inputs.now }
     requires totals { AreTotals inputs.now sent.now (slice_index totals.now) }
     ensures { IsTrue result → FitsSupply inputs.now sent.now }
@@ -145,7 +170,7 @@ fn fits_supply(inputs: &NodeInputs, sent: &Sent, totals: &[u64; OUTS]) -> bool
 
 /// The shares of the arms. Only the out-links that are sent more than they can take hold an arm back, and no others are
 /// asked.
-fn share_out(inputs: &NodeInputs, sent: &Sent, totals: &[u64; OUTS]) -> Shares
+fn share_out(inputs: &Reading<'_>, sent: &Sent, totals: &[u64; OUTS]) -> Shares
     requires solvable { IsSolvable inputs.now }
     requires sent { HoldsSent inputs.now sent.now }
     requires totals { AreTotals inputs.now sent.now (slice_index totals.now) }
@@ -167,7 +192,7 @@ fn share_out(inputs: &NodeInputs, sent: &Sent, totals: &[u64; OUTS]) -> Shares
 
 /// Asks an out-link, if it is sent more than it can take.
 #[inline]
-fn ask(inputs: &NodeInputs, sent: &Sent, total: u64, out: u32, into: &mut NodeDemands)
+fn ask(inputs: &Reading<'_>, sent: &Sent, total: u64, out: u32, into: &mut NodeDemands)
     requires solvable { IsSolvable inputs.now }
     requires sent { HoldsSent inputs.now sent.now }
     requires out { out < inputs.now.shape.outs }
@@ -200,7 +225,7 @@ fn copy_column(from: &Sent, out: usize, arms: usize, into: &mut Sent, next: usiz
 
 /// What an arm sends.
 #[tactic(auto, using(ltm_units::proofs::Sums::sum_below_more_le, ltm_units::proofs::Sums::sum_below_more))]
-fn sum_sent(inputs: &NodeInputs, arm: u32) -> u64
+fn sum_sent(inputs: &Reading<'_>, arm: u32) -> u64
     requires solvable { IsSolvable inputs.now }
     requires arm { arm < inputs.now.shape.arms }
     ensures { result ≡ sent inputs.now arm }
@@ -213,7 +238,7 @@ fn sum_sent(inputs: &NodeInputs, arm: u32) -> u64
 }
 
 /// The priority of an arm: its capacity for each unit that it sends, in 1024ths.
-fn priority_of(inputs: &NodeInputs, arm: u32) -> u64
+fn priority_of(inputs: &Reading<'_>, arm: u32) -> u64
     requires solvable { IsSolvable inputs.now }
     requires arm { arm < inputs.now.shape.arms }
     ensures { result ≡ priority_or_more inputs.now arm }
@@ -222,7 +247,7 @@ fn priority_of(inputs: &NodeInputs, arm: u32) -> u64
 }
 
 /// Fills in the priorities of the arms.
-fn fill_priorities(inputs: &NodeInputs, into: &mut NodeDemands)
+fn fill_priorities(inputs: &Reading<'_>, into: &mut NodeDemands)
     requires solvable { IsSolvable inputs.now }
     ensures arms { into.new.arms ≡ into.old.arms }
     ensures outs { into.new.outs ≡ into.old.outs }

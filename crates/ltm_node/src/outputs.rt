@@ -16,10 +16,10 @@ ghost use Rattle.ltm_node.specs.Narrow.{laid};
 ghost use Rattle.ltm_node.specs.Portion.{AreFractions};
 ghost use Rattle.ltm_node.specs.Moving.{HaveMovedTo, HaveMovedAll};
 
-use crate::inputs::NodeInputs;
 use crate::moves::Mover;
 use crate::narrow::Narrow;
 use crate::portion::Portion;
+use crate::reading::Reading;
 use crate::shape::NodeShape;
 use crate::tally::Tally;
 use ltm_units::NoMemory;
@@ -138,7 +138,7 @@ impl NodeOutputs {
     }
 
     /// Takes the counts as they were at the beginning of the slot.
-    fn begin(&mut self, inputs: &NodeInputs)
+    fn begin(&mut self, inputs: &Reading<'_>)
         requires { counts_width inputs.now.shape ≤ self.old.room }
         ensures counts { self.new ≡ record {
           shape = inputs.now.shape;
@@ -150,9 +150,8 @@ impl NodeOutputs {
     {
         let _room = self.counts.len();
         let shape = inputs.shape();
-        let from = shape.counts_begin();
         let width = shape.counts_width();
-        self.counts[0..width].copy_from_slice(&inputs.row()[from..from + width]);
+        inputs.write_counts(&mut self.counts[0..width]);
         self.shape = shape;
     }
 
@@ -163,7 +162,8 @@ impl NodeOutputs {
         requires before { HaveMovedTo mover.now (T.stands tally.old) 0 self.old.row }
         ensures shape { self.new.shape ≡ mover.now.inputs.now.shape }
         ensures room { self.new.room ≡ self.old.room }
-        ensures after { HaveMovedTo mover.now (T.stands tally.new) mover.now.inputs.now.shape.destinations self.new.row }
+        ensures after { HaveMovedTo mover.now (T.stands tally.new)
+            mover.now.inputs.now.shape.destinations self.new.row }
     {
         let width = self.shape.counts_width();
         mover.move_all(&mut self.counts[0..width], tally);
@@ -173,7 +173,7 @@ impl NodeOutputs {
     /// each moves by each out-link.
     pub(crate) fn advance<T: Tally>(
         &mut self,
-        inputs: &NodeInputs,
+        inputs: &Reading<'_>,
         portion: Portion<'_>,
         tally: &mut T,
     )

@@ -24,7 +24,8 @@ pub trait Tally {
         requires part { IsPart mover.now.inputs.now part }
         requires before { stands self.old mover.now.inputs.now mover.now.portion part.arm part.out part.destination }
         ensures moved { result ≡ moved_by mover.now part.arm part.destination part.out }
-        ensures after { stands self.new mover.now.inputs.now mover.now.portion part.arm part.out (part.destination + 1) }
+        ensures after { stands self.new mover.now.inputs.now mover.now.portion part.arm part.out
+            (part.destination + 1) }
         ensures others { (i j d : ℕ) → j < 4 → (i ≡ part.arm → j ≡ part.out → ⊥)
             → stands self.old mover.now.inputs.now mover.now.portion i j d
             → stands self.new mover.now.inputs.now mover.now.portion i j d };

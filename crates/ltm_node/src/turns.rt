@@ -6,8 +6,8 @@ ghost use Rattle.ltm_node.specs.Portion.{denominator, numerator, AreFractions};
 ghost use Rattle.ltm_node.specs.Step.{turned};
 ghost use Rattle.ltm_node.specs.Moving.{HoldsSent};
 
-use crate::inputs::NodeInputs;
 use crate::portion::Portion;
+use crate::reading::Reading;
 use ltm_shares::Sent;
 
 /// What is left to move by each turn, an arm and an out-link, and what is left of the parts over which it is split.
@@ -21,7 +21,7 @@ impl Turns {
     ghost use Rattle.ltm_node.specs.Tally.{IsLeftOf};
 
     /// The turns before any arm has moved: by each an arm is to move its portion of all that it sends by it.
-    pub fn begin(inputs: &NodeInputs, portion: Portion<'_>, sent: Sent) -> Turns
+    pub fn begin(inputs: &Reading<'_>, portion: Portion<'_>, sent: Sent) -> Turns
         requires solvable { IsSolvable inputs.now }
         requires fractions { AreFractions inputs.now portion }
         requires by_turn { inputs.now.shape.by_turn ≡ true }
@@ -40,7 +40,7 @@ impl Turns {
     }
 
     /// By each turn of an arm its portion of what it sends by it is to move.
-    fn begin_arm(&mut self, inputs: &NodeInputs, portion: Portion<'_>, arm: u32)
+    fn begin_arm(&mut self, inputs: &Reading<'_>, portion: Portion<'_>, arm: u32)
         requires solvable { IsSolvable inputs.now }
         requires fractions { AreFractions inputs.now portion }
         requires arm { arm < inputs.now.shape.arms }

@@ -12,7 +12,7 @@ impl Narrow<'_> {
         requires { arm < self.now.inputs.now.shape.arms }
         ensures { result ≡ sending self.now.inputs.now arm 0 }
     {
-        self.numbers[self.shape.sending_place(arm, 0)]
+        self.numbers.row[self.shape.sending_place(arm, 0)]
     }
 
     /// What has left an arm by the beginning of the slot.
@@ -21,7 +21,7 @@ impl Narrow<'_> {
         requires { arm < self.now.inputs.now.shape.arms }
         ensures { result ≡ left self.now.inputs.now arm 0 }
     {
-        self.numbers[self.shape.left_place(arm, 0)]
+        self.numbers.count_at(self.shape.left_place(arm, 0))
     }
 
     /// What has entered the out-link by the beginning of the slot.
@@ -30,7 +30,7 @@ impl Narrow<'_> {
         requires { 0 < self.now.inputs.now.shape.outs }
         ensures { result ≡ entered self.now.inputs.now 0 0 }
     {
-        self.numbers[self.shape.entered_place(0, 0)]
+        self.numbers.count_at(self.shape.entered_place(0, 0))
     }
 
     /// What has arrived by the beginning of the slot.
@@ -38,7 +38,7 @@ impl Narrow<'_> {
     pub(super) fn arrived(&self) -> u64
         ensures { result ≡ arrived self.now.inputs.now }
     {
-        self.numbers[self.shape.arrived_place()]
+        self.numbers.count_at(self.shape.arrived_place())
     }
 
     /// What the out-link can take.
@@ -47,7 +47,7 @@ impl Narrow<'_> {
         requires { 0 < self.now.inputs.now.shape.outs }
         ensures { result ≡ supply self.now.inputs.now 0 }
     {
-        self.numbers[self.shape.supply_place(0)]
+        self.numbers.row[self.shape.supply_place(0)]
     }
 
     /// The weight of the out-link.
@@ -56,7 +56,7 @@ impl Narrow<'_> {
         requires { 0 < self.now.inputs.now.shape.outs }
         ensures { result ≡ weight self.now.inputs.now 0 0 }
     {
-        self.numbers[self.shape.weights_place(0)]
+        self.numbers.row[self.shape.weights_place(0)]
     }
 
     /// Whether the node is the destination.

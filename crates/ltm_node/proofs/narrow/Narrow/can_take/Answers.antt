@@ -1,0 +1,11 @@
+use Rattle.std.proofs.Common.{ℕ, ◌∙◌, slice_index, ap}
+use Rattle.ltm_node.proofs.AsRead.{IsReadFrom, supply_from}
+use Rattle.ltm_node.proofs.narrow.Narrow.can_take.Goals as goal
+
+pub returns : goal.returns
+returns c =
+    let v = c.args.self.now in
+    let n = v.inputs.now in
+    let held : IsReadFrom n v.numbers.counted v.shape v.numbers.row.now = record { shape = v.same_shape; row = v.same_row; long = v.long } in
+    ap (λ (z : ℕ). slice_index v.numbers.row.now z) c.supply_place.ensures.place
+    ∙ supply_from n v.numbers.counted v.shape v.numbers.row.now 0 held
