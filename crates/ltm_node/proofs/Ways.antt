@@ -7,7 +7,7 @@ use Rattle.ltm_node.specs.Inputs.{Inputs, sending, weights}
 use Rattle.ltm_node.specs.Demands.{part}
 use Rattle.ltm_node.specs.Solvable.{IsSolvable}
 use Rattle.ltm_node.specs.Splitting.{HasOne, HasTwo}
-use Rattle.ltm_node.specs.Moving.{IsMoving, Passes}
+use Rattle.ltm_node.specs.Moving.{IsMoving, IsSentNothing, Passes}
 use Rattle.ltm_node.proofs.Amounts.{nothing_on, nothing_by, next_destination}
 use Rattle.ltm_node.proofs.Ranges.{part_is, part_none, sunk_nothing, sunk_elsewhere, weight_of, weight_within}
 use Rattle.ltm_node.proofs.Splitting.{split_without, split_one, split_first, split_second, one_alone, two_alone}
@@ -73,6 +73,25 @@ idle_by n e p stands b (suc a) row s passes h al bl none =
 pub idle_on : (n : Inputs) (e : ℕ) (p : ℕ → ℕ) (stands : ℕ → ℕ → ℕ → Type 0) (b : ℕ) (row : List ℕ) → IsSolvable n → Passes n stands → IsMoving n e p stands b 0 0 row → b < n.shape.destinations →
     ((i : ℕ) → i < n.shape.arms → sending n i b ≡ 0) → IsMoving n e p stands (b + 1) 0 0 row
 idle_on n e p stands b row s passes h bl none = next_destination n e p stands b row s (idle_by n e p stands b n.shape.arms row s passes h (omega arith) bl none)
+
+-- some destinations to which no arm sends
+idle_some : (n : Inputs) (e : ℕ) (p : ℕ → ℕ) (stands : ℕ → ℕ → ℕ → Type 0) (b k : ℕ) (row : List ℕ) → IsSolvable n → Passes n stands → IsMoving n e p stands b 0 0 row → b + k ≤ n.shape.destinations →
+    IsSentNothing n b (b + k) → IsMoving n e p stands (b + k) 0 0 row
+idle_some n e p stands b zero row s passes h bl none =
+    let here : b ≡ b + 0 = omega arith in
+    subst (λ (z : ℕ). IsMoving n e p stands z 0 0 row) here h
+idle_some n e p stands b (suc k) row s passes h bl none =
+    let next : b + k + 1 ≡ b + suc k = omega arith in
+    subst (λ (z : ℕ). IsMoving n e p stands z 0 0 row) next
+    (idle_on n e p stands (b + k) row s passes (idle_some n e p stands b k row s passes h (omega arith) (λ i d l more less. none i d l more (omega arith))) (omega arith)
+    (λ i l. none i (b + k) l (omega arith) (omega arith)))
+
+pub idle_to : (n : Inputs) (e : ℕ) (p : ℕ → ℕ) (stands : ℕ → ℕ → ℕ → Type 0) (b to : ℕ) (row : List ℕ) → IsSolvable n → Passes n stands → IsMoving n e p stands b 0 0 row → b ≤ to → to ≤ n.shape.destinations →
+    IsSentNothing n b to → IsMoving n e p stands to 0 0 row
+idle_to n e p stands b to row s passes h order bl none =
+    let whole : b + (to - b) ≡ to = omega arith in
+    subst (λ (z : ℕ). IsMoving n e p stands z 0 0 row) whole
+    (idle_some n e p stands b (to - b) row s passes h (omega arith) (λ i d l more less. none i d l more (omega arith)))
 
 -- a destination without a weight
 pub unweighted_on : (n : Inputs) (e : ℕ) (p : ℕ → ℕ) (stands : ℕ → ℕ → ℕ → Type 0) (b : ℕ) (row : List ℕ) → IsSolvable n → Passes n stands → IsMoving n e p stands b 0 0 row → b < n.shape.destinations →

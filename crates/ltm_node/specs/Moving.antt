@@ -62,6 +62,10 @@ abbrev pub HaveMovedAll : Inputs → Portion → (Inputs → Portion → ℕ →
 HaveMovedAll n portion stands row =
     IsMoving n (denominator portion) (numerator portion) (stands n portion) n.shape.destinations 0 0 row
 
+-- no arm sends to any of the destinations from this one on to that one
+abbrev pub IsSentNothing : Inputs → ℕ → ℕ → Type 0
+IsSentNothing n from to = (i d : ℕ) → i < n.shape.arms → from ≤ d → d < to → sending n i d ≡ 0
+
 -- what an arm moves to a destination by an out-link
 abbrev pub moved_by : Mover → ℕ → ℕ → ℕ → ℕ
 moved_by m arm destination out = moved m.inputs.now (denominator m.portion) (numerator m.portion) arm destination out

@@ -4,7 +4,8 @@
 //! weights above 0 are looked for once. Where one or two weights are all of the sum, as in nearly every row, no arm looks
 //! through the weights (`moves/ways.rt`). Else an amount is split out-link by out-link, what is not split yet staying in
 //! hand, and ends with the last weight above 0. An amount of 0 moves nothing and is passed over, and so
-//! is a destination to which no arm sends, before its weights are looked at.
+//! is a destination to which no arm sends, before its weights are looked at, and where there are many by fours
+//! (`moves/walk.rt`).
 //!
 //! Whoever changes this: the rule is `MovesAtShares` of `specs/Step.antt`, with `part` and `to_sink` of `specs/Demands.antt`
 //! for what is sent by each way. The pass here is its general form, for all shapes and shares; each fast form is proved
@@ -37,6 +38,7 @@ ghost use Rattle.ltm_node.specs.Portion.{AreFractions};
 ghost use Rattle.ltm_node.specs.Reading.{row_as};
 
 mod sinks;
+mod walk;
 mod ways;
 
 use crate::loads::{Load, Part};
@@ -305,16 +307,6 @@ impl Mover<'_> {
             self.sink_all(destination, row, tally);
         } else {
             self.send_all(destination, row, tally);
-        }
-    }
-
-    /// Adds what all arms move to all destinations, in the order of their numbers, and keeps the tally.
-    pub fn move_all<T: Tally>(&self, row: &mut [u64], tally: &mut T)
-        requires before { HaveMovedTo self.now (T.stands tally.old) 0 row.old }
-        ensures after { HaveMovedTo self.now (T.stands tally.new) self.now.inputs.now.shape.destinations row.new }
-    {
-        for destination in 0..self.shape.destinations {
-            self.move_to(destination, row, tally);
         }
     }
 }
