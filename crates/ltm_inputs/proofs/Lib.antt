@@ -4,3 +4,5 @@ pub mod Arms
 pub mod Whole
 pub mod Idle
 pub mod Joined
+pub mod Told
+pub mod Weighing

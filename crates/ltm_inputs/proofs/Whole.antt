@@ -7,6 +7,7 @@ use Rattle.ltm_node.specs.Shape.{width}
 use Rattle.ltm_node.specs.Inputs.{Inputs}
 use Rattle.ltm_node.specs.Lending.{with_numbers}
 use Rattle.ltm_node.specs.Solvable.{IsSolvable}
+use Rattle.ltm_node.specs.Uncounted.{uncounted, with_no_counts}
 use Rattle.ltm_loading.specs.Setting.{Setting}
 use Rattle.ltm_loading.specs.Pairs.{shape_at, pair_row, pair_inputs}
 use Rattle.ltm_loading.specs.NextPair.{IsPairInputs}
@@ -20,12 +21,12 @@ written_row s c u t old new numbers shape is long row = record {
   row = ap (λ (n : Inputs). n.row) is ∙ (take-append-le (width old.shape) numbers (drop (length numbers) old.row) long ∙ row);
 }
 
--- so is a row with 0 for each count
-pub written_uncounted : (s : Setting) (c : Counts) (u t : ℕ) (old new : Inputs) (numbers : List ℕ) → old.shape ≡ shape_at s u → new ≡ with_numbers old numbers → width old.shape ≤ length numbers → take (width old.shape) numbers ≡ uncounted_row s c u t →
-    IsUncountedPair s c u t new
+-- so is a row of which the counts are not told
+pub written_uncounted : (s : Setting) (c : Counts) (u t : ℕ) (old new : Inputs) (numbers : List ℕ) → old.shape ≡ shape_at s u → new ≡ with_numbers old numbers → width old.shape ≤ length numbers →
+    with_no_counts old.shape (take (width old.shape) numbers) ≡ uncounted_row s c u t → IsUncountedPair s c u t (uncounted new)
 written_uncounted s c u t old new numbers shape is long row = record {
   shape = ap (λ (n : Inputs). n.shape) is ∙ shape;
-  row = ap (λ (n : Inputs). n.row) is ∙ (take-append-le (width old.shape) numbers (drop (length numbers) old.row) long ∙ row);
+  row = ap (λ (n : Inputs). with_no_counts n.shape n.row) is ∙ (ap (with_no_counts old.shape) (take-append-le (width old.shape) numbers (drop (length numbers) old.row) long) ∙ row);
 }
 
 -- the conditions of a node step speak of shape and row alone

@@ -44,12 +44,6 @@ weights_part s u t = grid s.destinations (s.outs u) (λ d j. s.weight u d t j)
 abbrev pub limit_parts : Setting → Counts → ℕ → ℕ → List ℕ
 limit_parts s c u t = supply_part s c u t ++ (capacity_part s u ++ weights_part s u t)
 
--- all parts behind what each arm sends, with 0 for each count
-abbrev pub uncounted_parts : Setting → Counts → ℕ → ℕ → List ℕ
-uncounted_parts s c u t =
-    grid (arms_of s u) s.destinations (λ i d. 0)
-    ++ (grid (s.outs u) s.destinations (λ j d. 0) ++ (list_below 1 (λ k. 0) ++ limit_parts s c u t))
-
 -- the position of a slot for each in-link of a node, none of them past the slot
 pub record ArePositions (s : Setting) (c : Counts) (u t : ℕ) (positions : List ℕ) : Type 0 where
   pub each : (i : ℕ) → i < s.ins u → slice_index positions i ≡ position s c (s.in_link u i) t

@@ -1,8 +1,9 @@
-//! The inputs of a pair of node and slot: those with 0 for each count, and its counts written in.
+//! The inputs of a pair of node and slot, and its counts written into them.
 ghost use Rattle.std.specs.Prelude.{◌≡◌, ◌≤◌, length, take};
 ghost use Rattle.ltm_curve.specs.Table.{counts_of};
 ghost use Rattle.ltm_node.specs.Shape.{width};
 ghost use Rattle.ltm_node.specs.Solvable.{IsSolvable};
+ghost use Rattle.ltm_node.specs.Uncounted.{uncounted, with_no_counts};
 ghost use Rattle.ltm_loading.specs.Pairs.{pair_row};
 ghost use Rattle.ltm_loading.specs.NextPair.{IsPairInputs};
 ghost use Rattle.ltm_loading.specs.Uncounted.{uncounted_row, IsUncountedPair};
@@ -12,9 +13,10 @@ ghost use Rattle.ltm_sending.specs.Fronts.{FrontAt};
 ghost use Rattle.ltm_setting.specs.Places.{IsNode, node_shape};
 ghost use Rattle.ltm_units.specs.Bounds.{most_destinations};
 
+use crate::flows::flows_of;
 use crate::row::put_counts;
 use crate::shapes::shape_of;
-use crate::uncounted::uncounted_of;
+use crate::weights::weigh;
 use ltm_curve::Curves;
 use ltm_loading::in_range;
 use ltm_node::{NodeInputs, NodeShape};
@@ -45,11 +47,12 @@ pub fn inputs_of(
     ensures room { into.new.room ≡ into.old.room }
     ensures solvable { IsSolvable into.new }
 {
-    uncounted_of(scenario, curves, pair, into, positions);
+    flows_of(scenario, curves, pair, into, positions);
+    weigh(scenario, pair, into);
     count_in(scenario, curves, pair, into);
 }
 
-/// Writes the counts into the row of a pair that has 0 for each.
+/// Writes the counts into the row of a pair of which they are not told.
 fn put_counts_in(
     scenario: &Scenario,
     curves: &Curves,
@@ -63,7 +66,7 @@ fn put_counts_in(
     requires few_arms { shape.arms ≤ 5 }
     requires few_destinations { shape.destinations ≤ most_destinations }
     requires room { length row.old ≡ width shape }
-    requires row { row.old
+    requires row { with_no_counts shape row.old
         ≡ uncounted_row (setting_of scenario.now) (counts_of curves.now) pair.node.0 pair.slot }
     ensures { row.new ≡ pair_row (setting_of scenario.now)
         (counts_of curves.now) pair.node.0 pair.slot }
@@ -73,7 +76,7 @@ fn put_counts_in(
     put_counts(scenario, curves, pair, shape, counts);
 }
 
-/// Writes the counts into the row of a pair that has 0 for each and stands at the front of a room.
+/// Writes the counts into the row of a pair of which they are not told, and which stands at the front of a room.
 #[inline]
 fn put_counts_in_front(
     scenario: &Scenario,
@@ -88,7 +91,7 @@ fn put_counts_in_front(
     requires few_arms { shape.arms ≤ 5 }
     requires few_destinations { shape.destinations ≤ most_destinations }
     requires room { width shape ≤ length room.old }
-    requires row { take (width shape) room.old
+    requires row { with_no_counts shape (take (width shape) room.old)
         ≡ uncounted_row (setting_of scenario.now) (counts_of curves.now) pair.node.0 pair.slot }
     ensures { take (width shape) room.new
         ≡ pair_row (setting_of scenario.now) (counts_of curves.now) pair.node.0 pair.slot }
@@ -97,13 +100,13 @@ fn put_counts_in_front(
     put_counts_in(scenario, curves, pair, shape, row);
 }
 
-/// Writes the counts of a pair at the front of a loading into its inputs that have 0 for each: then they are those that
+/// Writes the counts of a pair at the front of a loading into its inputs, of which all else is told: then they are those that
 /// `inputs_of` reads. Takes no memory.
 pub fn count_in(scenario: &Scenario, curves: &Curves, pair: Pair, into: &mut NodeInputs)
     requires node { IsNode scenario.now pair.node.0 }
     requires ready { FrontAt scenario.now curves.now pair.slot }
     requires uncounted { IsUncountedPair (setting_of scenario.now)
-        (counts_of curves.now) pair.node.0 pair.slot into.old }
+        (counts_of curves.now) pair.node.0 pair.slot (uncounted into.old) }
     ensures inputs { IsPairInputs (setting_of scenario.now)
         (counts_of curves.now) pair.node.0 pair.slot into.new }
     ensures room { into.new.room ≡ into.old.room }

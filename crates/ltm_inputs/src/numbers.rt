@@ -1,5 +1,5 @@
 //! Numbers of 32 bits, and amounts above 0.
-ghost use Rattle.std.specs.Prelude.{◌≡◌, ◌↔◌, ◌<◌, ◌≤◌, ℕ, IsFalse, length, slice_index};
+ghost use Rattle.std.specs.Prelude.{◌≡◌, ◌↔◌, ◌<◌, ◌≤◌, ◌+◌, ℕ, IsFalse, length, slice_index, take};
 
 /// Writes some numbers of 32 bits: up to four, as for the out-links of a node, without a loop.
 #[inline]
@@ -9,7 +9,19 @@ pub(crate) fn put_numbers(numbers: &[u32], into: &mut [u64])
 {
     if into.len() > 4 {
         put_many(numbers, into);
-    } else if into.len() > 2 {
+    } else {
+        put_few(numbers, into);
+    }
+}
+
+/// The same for up to four numbers.
+#[inline]
+fn put_few(numbers: &[u32], into: &mut [u64])
+    requires few { length into.old ≤ 4 }
+    requires same { length into.old ≡ length numbers.now }
+    ensures { into.new ≡ numbers.now }
+{
+    if into.len() > 2 {
         put_three_or_four(numbers, into);
     } else if into.len() == 2 {
         into[0] = u64::from(numbers[0]);
@@ -39,30 +51,39 @@ fn put_three_or_four(numbers: &[u32], into: &mut [u64])
     }
 }
 
-/// The same for any count of numbers. Kept out of line.
+/// Writes some numbers but for the last of them, fewer than four: four at a time, all of which are read before one is
+/// written. Returns how many are written.
+#[inline]
+fn put_fours(numbers: &[u32], into: &mut [u64]) -> usize
+    requires { length into.old ≡ length numbers.now }
+    ensures few { length numbers.now < result + 4 }
+    ensures within { result ≤ length numbers.now }
+    ensures count { length into.new ≡ length numbers.now }
+    ensures written { take result into.new ≡ take result numbers.now }
+{
+    let mut place = 0;
+    while place + 4 <= into.len() {
+        let first = u64::from(numbers[place]);
+        let second = u64::from(numbers[place + 1]);
+        let third = u64::from(numbers[place + 2]);
+        let fourth = u64::from(numbers[place + 3]);
+        into[place] = first;
+        into[place + 1] = second;
+        into[place + 2] = third;
+        into[place + 3] = fourth;
+        place += 4;
+    }
+    place
+}
+
+/// Writes any count of numbers. Kept out of line.
 #[inline(never)]
 fn put_many(numbers: &[u32], into: &mut [u64])
     requires { length into.old ≡ length numbers.now }
     ensures { into.new ≡ numbers.now }
 {
-    for at in 0..into.len() {
-        into[at] = u64::from(numbers[at]);
-    }
-}
-
-/// Writes zeros: four, as for the counts of a node in a row of links with one destination, without a loop.
-#[inline]
-pub(crate) fn put_zeros(into: &mut [u64])
-    ensures { (k : ℕ) → k < length into.old → slice_index into.new k ≡ 0 }
-{
-    if into.len() == 4 {
-        into[0] = 0;
-        into[1] = 0;
-        into[2] = 0;
-        into[3] = 0;
-    } else {
-        into.fill(0);
-    }
+    let place = put_fours(numbers, into);
+    put_few(&numbers[place..], &mut into[place..]);
 }
 
 /// Whether any amount is above 0.

@@ -1,17 +1,16 @@
-//! The blocks of a pair's row: its counts, its limits, and zeros in place of its counts.
+//! The blocks of a pair's row: its counts and its limits.
 ghost use Rattle.std.specs.Prelude.{◌≡◌, ◌+◌, ◌*◌, ◌≤◌, length};
 ghost use Rattle.ltm_curve.specs.Table.{counts_of, destinations_of};
-ghost use Rattle.ltm_node.specs.Shape.{width, counts_width, counts_begin};
+ghost use Rattle.ltm_node.specs.Shape.{counts_width};
 ghost use Rattle.ltm_loading.specs.Pairs.{count_row};
 ghost use Rattle.ltm_setting.specs.Setting.{setting_of};
-ghost use Rattle.ltm_inputs.specs.Parts.{limit_parts, uncounted_parts};
+ghost use Rattle.ltm_inputs.specs.Parts.{limit_parts};
 ghost use Rattle.ltm_sending.specs.Fronts.{FrontAt};
 ghost use Rattle.ltm_setting.specs.Places.{IsNode, node_shape};
 ghost use Rattle.ltm_units.specs.Bounds.{most_destinations};
 
 use crate::capacities::put_capacity;
 use crate::counts::{arrived, put_flows_counted};
-use crate::numbers::put_zeros;
 use crate::sending::put_supply;
 use crate::weights::put_weights;
 use ltm_curve::{Curves, Kind};
@@ -22,7 +21,7 @@ use ltm_units::Pair;
 
 /// Writes the numbers of a pair that stand behind all counts, for curves of a kind.
 #[inline]
-fn put_limits<K: Kind>(
+pub(crate) fn put_limits<K: Kind>(
     scenario: &Scenario,
     curves: &Curves,
     pair: Pair,
@@ -67,29 +66,4 @@ pub(crate) fn put_counts(
     let (flows, come) = into.split_at_mut(shape.arrived_after_place());
     put_flows_counted(scenario, curves, pair, flows);
     come[0] = arrived(scenario, curves, pair);
-}
-
-/// Writes the numbers of a pair that stand behind what its arms send, with 0 for each count, for curves of a kind.
-#[inline]
-pub(crate) fn put_uncounted<K: Kind>(
-    scenario: &Scenario,
-    curves: &Curves,
-    pair: Pair,
-    shape: NodeShape,
-    into: &mut [u64],
-)
-    requires kind { K.fits (destinations_of curves.now) }
-    requires node { IsNode scenario.now pair.node.0 }
-    requires ready { FrontAt scenario.now curves.now pair.slot }
-    requires shape { shape ≡ node_shape scenario.now pair.node.0 }
-    requires few_arms { shape.arms ≤ 5 }
-    requires few_outs { shape.outs ≤ 4 }
-    requires few_destinations { shape.destinations ≤ most_destinations }
-    requires room { counts_begin shape + length into.old ≡ width shape }
-    ensures { into.new ≡ uncounted_parts (setting_of scenario.now)
-        (counts_of curves.now) pair.node.0 pair.slot }
-{
-    let (counts, limits) = into.split_at_mut(shape.counts_width());
-    put_zeros(counts);
-    put_limits::<K>(scenario, curves, pair, shape, limits);
 }

@@ -1,20 +1,19 @@
-//! The inputs of a pair of node and slot with 0 for each count: what moves does not depend on the counts.
+//! The inputs of a pair of node and slot but for its counts: what moves does not depend on them.
 ghost use Rattle.std.specs.Prelude.{◌≡◌, ◌≤◌, ◌↔◌, length, take, IsTrue, IsFalse};
 ghost use Rattle.ltm_curve.specs.Table.{counts_of, destinations_of};
 ghost use Rattle.ltm_node.specs.Shape.{width};
 ghost use Rattle.ltm_node.specs.Solvable.{IsSolvable};
+ghost use Rattle.ltm_node.specs.Uncounted.{uncounted, with_no_counts};
 ghost use Rattle.ltm_loading.specs.Uncounted.{uncounted_row, IsUncountedPair};
 ghost use Rattle.ltm_setting.specs.Setting.{setting_of};
 ghost use Rattle.ltm_inputs.specs.Idle.{IsIdle};
-ghost use Rattle.ltm_inputs.specs.Parts.{ArePositions};
 ghost use Rattle.ltm_sending.specs.Fronts.{FrontAt};
 ghost use Rattle.ltm_setting.specs.Places.{IsNode, node_shape};
 ghost use Rattle.ltm_units.specs.Bounds.{most_destinations};
 
-use crate::flows::put_flows_and_limits;
-use crate::numbers::{is_any_sent, put_zeros};
-use crate::row::put_uncounted;
-use crate::sending::{Front, put_sending};
+use crate::numbers::is_any_sent;
+use crate::row::put_limits;
+use crate::sending::put_sending;
 use crate::shapes::shape_of;
 use ltm_curve::{Alone, Any, Curves, Kind, Several, Two};
 use ltm_loading::uncounted_in_range;
@@ -23,8 +22,7 @@ use ltm_scenario::Scenario;
 use ltm_setting::is_setting;
 use ltm_units::Pair;
 
-/// Writes the row of a pair with 0 for each count, if any of its arms sends something; whether one does. For curves of a
-/// kind.
+/// Writes the row of a pair but for its counts, if any of its arms sends something; whether one does. For curves of a kind.
 #[inline]
 fn put_row_if_sent<K: Kind>(
     scenario: &Scenario,
@@ -42,8 +40,8 @@ fn put_row_if_sent<K: Kind>(
     requires few_destinations { shape.destinations ≤ most_destinations }
     requires room { length row.old ≡ width shape }
     ensures row { IsTrue result
-        → row.new ≡ uncounted_row (setting_of scenario.now)
-        (counts_of curves.now) pair.node.0 pair.slot }
+        → with_no_counts shape row.new
+        ≡ uncounted_row (setting_of scenario.now) (counts_of curves.now) pair.node.0 pair.slot }
     ensures idle { IsFalse result
         ↔ IsIdle (setting_of scenario.now) (counts_of curves.now) pair.node.0 pair.slot }
 {
@@ -51,7 +49,8 @@ fn put_row_if_sent<K: Kind>(
     put_sending::<K>(scenario, curves, pair, sending);
     let sent = is_any_sent(sending);
     if sent {
-        put_uncounted::<K>(scenario, curves, pair, shape, others);
+        let (_counts, limits) = others.split_at_mut(shape.counts_width());
+        put_limits::<K>(scenario, curves, pair, shape, limits);
     }
     sent
 }
@@ -73,8 +72,8 @@ fn put_any_row_if_sent(
     requires few_destinations { shape.destinations ≤ most_destinations }
     requires room { length row.old ≡ width shape }
     ensures row { IsTrue result
-        → row.new ≡ uncounted_row (setting_of scenario.now)
-        (counts_of curves.now) pair.node.0 pair.slot }
+        → with_no_counts shape row.new
+        ≡ uncounted_row (setting_of scenario.now) (counts_of curves.now) pair.node.0 pair.slot }
     ensures idle { IsFalse result
         ↔ IsIdle (setting_of scenario.now) (counts_of curves.now) pair.node.0 pair.slot }
 {
@@ -108,7 +107,7 @@ fn put_front_if_sent(
     requires few_destinations { shape.destinations ≤ most_destinations }
     requires room { width shape ≤ length room.old }
     ensures row { IsTrue result
-        → take (width shape) room.new
+        → with_no_counts shape (take (width shape) room.new)
         ≡ uncounted_row (setting_of scenario.now) (counts_of curves.now) pair.node.0 pair.slot }
     ensures idle { IsFalse result
         ↔ IsIdle (setting_of scenario.now) (counts_of curves.now) pair.node.0 pair.slot }
@@ -117,10 +116,10 @@ fn put_front_if_sent(
     put_any_row_if_sent(scenario, curves, pair, shape, row)
 }
 
-/// Reads the inputs of a pair of node and slot at the front of a loading with 0 for each count, if any of its arms sends
-/// something; whether one does. The node step of these inputs is what moves, whatever has been counted, so a loading adds it
-/// to counts that it need not read. The counts of a pair whose arms send nothing stay as they are: the numbers of the row
-/// are not told then. Takes no memory.
+/// Reads the inputs of a pair of node and slot at the front of a loading, if any of its arms sends something; whether one
+/// does. The counts in the row are not told: what moves does not depend on them, so a loading adds it to counts that it need
+/// not read. The counts of a pair whose arms send nothing stay as they are: no number of the row is told then. Takes no
+/// memory.
 pub fn uncounted_if_sent(
     scenario: &Scenario,
     curves: &Curves,
@@ -132,8 +131,8 @@ pub fn uncounted_if_sent(
     requires room { width (node_shape scenario.now pair.node.0) ≤ into.old.room }
     ensures inputs { IsTrue result
         → IsUncountedPair (setting_of scenario.now)
-        (counts_of curves.now) pair.node.0 pair.slot into.new }
-    ensures solvable { IsTrue result → IsSolvable into.new }
+        (counts_of curves.now) pair.node.0 pair.slot (uncounted into.new) }
+    ensures solvable { IsTrue result → IsSolvable (uncounted into.new) }
     ensures idle { IsFalse result
         ↔ IsIdle (setting_of scenario.now) (counts_of curves.now) pair.node.0 pair.slot }
     ensures room { into.new.room ≡ into.old.room }
@@ -143,89 +142,4 @@ pub fn uncounted_if_sent(
     let shape = shape_of(scenario, pair.node);
     into.reshape(shape);
     put_front_if_sent(scenario, curves, pair, shape, into.numbers_mut())
-}
-
-/// Writes the row of a pair with 0 for each count, and its positions.
-fn put_uncounted_row(
-    scenario: &Scenario,
-    curves: &Curves,
-    pair: Pair,
-    shape: NodeShape,
-    row: &mut [u64],
-    positions: &mut [u32],
-)
-    requires node { IsNode scenario.now pair.node.0 }
-    requires ready { FrontAt scenario.now curves.now pair.slot }
-    requires shape { shape ≡ node_shape scenario.now pair.node.0 }
-    requires few_arms { shape.arms ≤ 5 }
-    requires few_outs { shape.outs ≤ 4 }
-    requires few_destinations { shape.destinations ≤ most_destinations }
-    requires room { length row.old ≡ width shape }
-    requires places { (setting_of scenario.now).ins pair.node.0 ≤ length positions.old }
-    ensures row { row.new
-        ≡ uncounted_row (setting_of scenario.now) (counts_of curves.now) pair.node.0 pair.slot }
-    ensures positions { ArePositions (setting_of scenario.now)
-        (counts_of curves.now) pair.node.0 pair.slot positions.new }
-{
-    let (sending, others) = row.split_at_mut(shape.counts_begin());
-    let (counts, limits) = others.split_at_mut(shape.counts_width());
-    put_zeros(counts);
-    let front = Front { scenario, curves };
-    put_flows_and_limits(front, pair, shape, sending, positions, limits);
-}
-
-/// Writes the row of a pair with 0 for each count at the front of a room, and its positions.
-#[inline]
-fn put_uncounted_front(
-    scenario: &Scenario,
-    curves: &Curves,
-    pair: Pair,
-    shape: NodeShape,
-    room: &mut [u64],
-    positions: &mut [u32],
-)
-    requires node { IsNode scenario.now pair.node.0 }
-    requires ready { FrontAt scenario.now curves.now pair.slot }
-    requires shape { shape ≡ node_shape scenario.now pair.node.0 }
-    requires few_arms { shape.arms ≤ 5 }
-    requires few_outs { shape.outs ≤ 4 }
-    requires few_destinations { shape.destinations ≤ most_destinations }
-    requires room { width shape ≤ length room.old }
-    requires places { (setting_of scenario.now).ins pair.node.0 ≤ length positions.old }
-    ensures row { take (width shape) room.new
-        ≡ uncounted_row (setting_of scenario.now) (counts_of curves.now) pair.node.0 pair.slot }
-    ensures positions { ArePositions (setting_of scenario.now)
-        (counts_of curves.now) pair.node.0 pair.slot positions.new }
-{
-    let row = &mut room[..shape.width()];
-    put_uncounted_row(scenario, curves, pair, shape, row, positions);
-}
-
-/// Reads the inputs of a pair of node and slot at the front of a loading with 0 for each count, and the positions, as
-/// `inputs_of` gives them. The node step of these inputs is what moves, whatever has been counted. Takes no memory.
-///
-/// The room that the inputs of any pair need is told by `widest`; a node has at most four in-links.
-pub fn uncounted_of(
-    scenario: &Scenario,
-    curves: &Curves,
-    pair: Pair,
-    into: &mut NodeInputs,
-    positions: &mut [u32],
-)
-    requires node { IsNode scenario.now pair.node.0 }
-    requires ready { FrontAt scenario.now curves.now pair.slot }
-    requires room { width (node_shape scenario.now pair.node.0) ≤ into.old.room }
-    requires places { (setting_of scenario.now).ins pair.node.0 ≤ length positions.old }
-    ensures positions { ArePositions (setting_of scenario.now)
-        (counts_of curves.now) pair.node.0 pair.slot positions.new }
-    ensures inputs { IsUncountedPair (setting_of scenario.now)
-        (counts_of curves.now) pair.node.0 pair.slot into.new }
-    ensures room { into.new.room ≡ into.old.room }
-    ensures solvable { IsSolvable into.new }
-{
-    is_setting(scenario);
-    uncounted_in_range();
-    let shape = shape_of(scenario, pair.node);
-    into.reshape(shape);
-    put_uncounted_front(scenario, curves, pair, shape, into.numbers_mut(), positions);
 }

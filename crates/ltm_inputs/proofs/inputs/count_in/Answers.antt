@@ -3,6 +3,7 @@ use Rattle.ltm_curve.specs.Table.{counts_of}
 use Rattle.ltm_node.specs.declared.shape.NodeShape.{NodeShape}
 use Rattle.ltm_node.specs.Shape.{width}
 use Rattle.ltm_node.specs.Lending.{with_numbers}
+use Rattle.ltm_node.specs.Uncounted.{with_no_counts}
 use Rattle.ltm_setting.specs.Setting.{setting_of}
 use Rattle.ltm_loading.specs.NextPair.{IsPairInputs}
 use Rattle.ltm_inputs.proofs.Whole.{written_row, solvable_inputs}
@@ -10,7 +11,8 @@ use Rattle.ltm_inputs.proofs.inputs.count_in.Goals as goal
 
 pub put_counts_in_front-requires-clause-row : goal.put_counts_in_front-requires-clause-row
 put_counts_in_front-requires-clause-row c =
-    ap (λ (z : NodeShape). take (width z) c.numbers_mut.result.now) (c.shape_of-shape.ensures.shape ∙ sym c.requires.uncounted.shape) ∙ (c.numbers_mut.ensures.row ∙ c.requires.uncounted.row)
+    ap (λ (z : NodeShape). with_no_counts z (take (width z) c.numbers_mut.result.now)) (c.shape_of-shape.ensures.shape ∙ sym c.requires.uncounted.shape)
+    ∙ (ap (with_no_counts c.args.into.now.shape) c.numbers_mut.ensures.row ∙ c.requires.uncounted.row)
 
 pub returns : goal.returns
 returns c =
