@@ -2,6 +2,7 @@
 ghost use Rattle.std.specs.Prelude.{◌≡◌, ◌+◌, ◌↔◌, IsTrue, IfOk};
 ghost use Rattle.ltm_curve.specs.Table.{counts_of};
 ghost use Rattle.ltm_node.specs.Solvable.{IsSolvable};
+ghost use Rattle.ltm_node.specs.Uncounted.{uncounted};
 ghost use Rattle.ltm_loading.specs.Pairs.{MeetsStep};
 ghost use Rattle.ltm_loading.specs.Uncounted.{IsUncountedPair};
 ghost use Rattle.ltm_setting.specs.Setting.{setting_of};
@@ -14,7 +15,7 @@ use crate::rows::node_grows;
 use ltm_curve::Curves;
 use ltm_inputs::{uncounted_if_sent, widest};
 use ltm_loading::{counts_by_place, groups_by_row, in_range, inputs_by_place, step_by_moves};
-use ltm_node::{NodeInputs, NodeOutputs, nothing_moves, one_step, same_shape, write_step};
+use ltm_node::{NodeInputs, NodeOutputs, nothing_moves, one_step, same_shape, write_moves};
 use ltm_scenario::Scenario;
 use ltm_setting::is_setting;
 use ltm_units::{NoMemory, Pair};
@@ -38,14 +39,14 @@ pub(crate) fn make_room(alloc: Global, scenario: &Scenario) -> Result<Room, NoMe
     Ok(Room { inputs, outputs })
 }
 
-/// Whether the counts of a node whose arms send something grow in a slot by what moves: by the node step of inputs with 0 for
-/// each count.
+/// Whether the counts of a node whose arms send something grow in a slot by what moves: by the node step of its inputs where
+/// nothing has been counted.
 fn meets_moves(scenario: &Scenario, curves: &Curves, pair: Pair, room: &mut Room) -> bool
     requires node { IsNode scenario.now pair.node.0 }
     requires front { FrontAt scenario.now curves.now pair.slot }
     requires reads { IsUncountedPair (setting_of scenario.now)
-        (counts_of curves.now) pair.node.0 pair.slot room.old.inputs }
-    requires solvable { IsSolvable room.old.inputs }
+        (counts_of curves.now) pair.node.0 pair.slot (uncounted room.old.inputs) }
+    requires solvable { IsSolvable (uncounted room.old.inputs) }
     requires inputs { HasNodeRoom scenario.now room.old.inputs.room }
     requires outputs { HasNodeRoom scenario.now room.old.outputs.room }
     ensures meets { IsTrue result
@@ -59,7 +60,7 @@ fn meets_moves(scenario: &Scenario, curves: &Curves, pair: Pair, room: &mut Room
     in_range();
     step_by_moves();
     is_setting(scenario);
-    write_step(&room.inputs, &mut room.outputs);
+    write_moves(&room.inputs, &mut room.outputs);
     node_grows(scenario, curves, pair, Some(&room.outputs))
 }
 

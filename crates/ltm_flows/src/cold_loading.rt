@@ -3,6 +3,7 @@ ghost use Rattle.std.specs.Prelude.{◌≡◌, ◌≤◌, ◌<◌, ◌+◌, ℕ,
 ghost use Rattle.ltm_curve.specs.Table.{counts_of, IsEmpty};
 ghost use Rattle.ltm_node.specs.Shape.{width};
 ghost use Rattle.ltm_node.specs.Solvable.{IsSolvable};
+ghost use Rattle.ltm_node.specs.Uncounted.{uncounted};
 ghost use Rattle.ltm_loading.specs.Setting.{IsSetting};
 ghost use Rattle.ltm_loading.specs.Loading.{IsFront, IsLoading};
 ghost use Rattle.ltm_loading.specs.Uncounted.{IsUncountedPair};
@@ -18,7 +19,7 @@ use ltm_loading::{
     counts_by_place, counts_set_only, inputs_by_place, inputs_read_only, next_pair, next_slot,
     outputs_small, set_by_one_pair, step_by_moves,
 };
-use ltm_node::{NodeInputs, NodeOutputs, no_arrivals, nothing_moves, same_shape, write_step};
+use ltm_node::{NodeInputs, NodeOutputs, no_arrivals, nothing_moves, same_shape, write_moves};
 use ltm_scenario::Scenario;
 use ltm_setting::{destination_count, group_count, is_setting, node_count, slot_count};
 use ltm_units::{NoMemory, NodeId, Pair};
@@ -75,8 +76,8 @@ fn load_pair(scenario: &Scenario, curves: &mut Curves, pair: Pair, room: &mut Ro
     }
 }
 
-/// The step of a node in a slot: what moves, from inputs with 0 for each count, is added to its counts, which were carried on
-/// to the slot's end. No count up to the slot's beginning changes. Takes no memory.
+/// The step of a node in a slot: what moves, from inputs whose counts are not told, is added to its counts, which were carried
+/// on to the slot's end. No count up to the slot's beginning changes. Takes no memory.
 pub fn move_pair(
     scenario: &Scenario,
     curves: &mut Curves,
@@ -89,8 +90,8 @@ pub fn move_pair(
     requires slot { IsSlot scenario.now pair.slot }
     requires working { WorksAt scenario.now curves.old pair.slot pair.node.0 }
     requires reads { IsUncountedPair (setting_of scenario.now)
-        (counts_of curves.old) pair.node.0 pair.slot inputs.now }
-    requires solvable { IsSolvable inputs.now }
+        (counts_of curves.old) pair.node.0 pair.slot (uncounted inputs.now) }
+    requires solvable { IsSolvable (uncounted inputs.now) }
     requires room { HasNodeRoom scenario.now outputs.old.room }
     ensures working { WorksAt scenario.now curves.new pair.slot (pair.node.0 + 1) }
     ensures stays { (g d k : ℕ) → g < all_groups scenario.now
@@ -106,7 +107,7 @@ pub fn move_pair(
     no_arrivals();
     set_by_one_pair();
     let _slots = slot_count(scenario);
-    write_step(inputs, outputs);
+    write_moves(inputs, outputs);
     add_moves(scenario, curves, pair, outputs);
 }
 
