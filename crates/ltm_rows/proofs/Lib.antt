@@ -3,3 +3,4 @@ pub mod KeptPlaces
 pub mod ClaimPlaces
 pub mod PartRows
 pub mod Startings
+pub mod Begun

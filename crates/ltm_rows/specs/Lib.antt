@@ -4,3 +4,4 @@ pub mod Layouts
 pub mod Rows
 pub mod Claims
 pub mod Parts
+pub mod Begins
