@@ -3,4 +3,5 @@ pub mod KeptPlaces
 pub mod ClaimPlaces
 pub mod PartRows
 pub mod Startings
+pub mod Unmarking
 pub mod Begun

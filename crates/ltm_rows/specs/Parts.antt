@@ -8,6 +8,10 @@ use Rattle.ltm_rows.specs.declared.parts.Parts.{Parts}
 abbrev pub row_of_parts : Parts → List ℕ
 row_of_parts p = p.sends.now ++ (p.limits.now ++ p.weights.now)
 
+-- what the arms send and the limits
+abbrev pub amounts_in : Parts → List ℕ
+amounts_in p = p.sends.now ++ p.limits.now
+
 -- a row of inputs without its counts
 abbrev pub without_counts : NodeShape → List ℕ → List ℕ
 without_counts shape row = take (counts_begin shape) row ++ drop (supplies_begin shape) row

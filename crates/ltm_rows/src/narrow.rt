@@ -1,5 +1,5 @@
 //! Numbers in 16 bits beside numbers in 64 bits.
-ghost use Rattle.std.specs.Prelude.{◌≡◌, ◌↔◌, ◌+◌, ◌*◌, ◌/◌, ◌++◌, ◌^◌, ◌<◌, ℕ, length, slice_index, IsTrue};
+ghost use Rattle.std.specs.Prelude.{◌≡◌, ◌↔◌, ◌+◌, ◌*◌, ◌/◌, ◌++◌, ◌^◌, ◌<◌, ℕ, length, slice_index, replicate, IsTrue};
 
 /// Whether two rows are equal. That they differ is told at the first number that does.
 #[inline]
@@ -109,5 +109,18 @@ pub(crate) fn write_narrow_parts(into: &mut [u16], front: &[u64], back: &[u64])
 {
     let (first, second) = into.split_at_mut(front.len());
     write_narrow(first, front);
+    write_narrow(second, back);
+}
+
+/// The same where zeros stand and the front is zeros: the back alone is written.
+#[inline]
+pub(crate) fn write_behind_zeros(into: &mut [u16], front: &[u64], back: &[u64])
+    requires count { length into.old ≡ length front.now + length back.now }
+    requires zeros { into.old ≡ replicate (length front.now + length back.now) 0 }
+    requires front { (i : ℕ) → i < length front.now → slice_index front.now i ≡ 0 }
+    requires back { (i : ℕ) → i < length back.now → slice_index back.now i < 2 ^ 16 }
+    ensures { into.new ≡ front.now ++ back.now }
+{
+    let (_zeros, second) = into.split_at_mut(front.len());
     write_narrow(second, back);
 }
