@@ -11,3 +11,4 @@ pub mod Cells
 pub mod Copying
 pub mod TotalCurves
 pub mod RowTotals
+pub mod Moving

@@ -1,12 +1,106 @@
 //! Counts at a slot's end, made of those of its beginning and what has moved.
-ghost use Rattle.std.specs.Prelude.{◌≡◌, ◌↔◌, ℕ, ◌+◌, ◌*◌, ◌^◌, ◌<◌, ◌≤◌, ◌⊎◌, length, sum, slice_index, IsFalse};
+ghost use Rattle.std.specs.Prelude.{◌≡◌, ◌↔◌, ℕ, ◌+◌, ◌*◌, ◌/◌, ◌^◌, ◌<◌, ◌≤◌, ◌⊎◌, length, sum, slice_index, IsFalse};
 ghost use Rattle.ltm_units.specs.Bounds.{most_destinations};
+ghost use Rattle.ltm_units.specs.Sums.{sum_below};
 ghost use Rattle.ltm_curve.specs.First.{list_below};
+ghost use Rattle.ltm_curve.specs.Moving.{StandSums, WritesSums};
 
 use super::{Curves, capped};
 
-/// Writes numbers that begin at one place of a table, and amounts that are added, over those at another place; whether some
-/// number there was another one, and the sum of the amounts. Nothing is asked on the way, so several are written at a time.
+/// Writes four sums, all of which are made before one is written; whether some number there was another one.
+#[inline]
+fn write_four(table: &mut [u32], from: usize, to: usize, amounts: &[u64], begin: usize) -> bool
+    requires apart { from + length amounts.now ≤ to }
+    requires within { to + length amounts.now ≤ length table.old }
+    requires four { begin + 4 ≤ length amounts.now }
+    requires small { (d : ℕ) → d < length amounts.now
+        → slice_index table.old (from + d) + slice_index amounts.now d < 2 ^ 31 }
+    ensures same { IsFalse result ↔ StandSums table.old from to amounts.now begin (begin + 4) }
+    ensures sums { WritesSums table.old table.new from to amounts.now begin (begin + 4) }
+{
+    let first = table[from + begin] + amounts[begin] as u32;
+    let second = table[from + begin + 1] + amounts[begin + 1] as u32;
+    let third = table[from + begin + 2] + amounts[begin + 2] as u32;
+    let fourth = table[from + begin + 3] + amounts[begin + 3] as u32;
+    let front = (table[to + begin] != first) | (table[to + begin + 1] != second);
+    let back = (table[to + begin + 2] != third) | (table[to + begin + 3] != fourth);
+    table[to + begin] = first;
+    table[to + begin + 1] = second;
+    table[to + begin + 2] = third;
+    table[to + begin + 3] = fourth;
+    front | back
+}
+
+/// Writes all sums but for the last, fewer than four; whether some number there was another one, and the sum of their amounts,
+/// which is made in two parts, so that each is one of a pair of numbers that are added at a time.
+#[inline]
+fn write_fours(table: &mut [u32], from: usize, to: usize, amounts: &[u64]) -> (bool, u64)
+    requires apart { from + length amounts.now ≤ to }
+    requires within { to + length amounts.now ≤ length table.old }
+    requires few { length amounts.now ≤ most_destinations }
+    requires small { (d : ℕ) → d < length amounts.now
+        → slice_index table.old (from + d) + slice_index amounts.now d < 2 ^ 31 }
+    ensures same { IsFalse result.0
+        ↔ StandSums table.old from to amounts.now 0 (length amounts.now / 4 * 4) }
+    ensures whole { result.1 ≡ sum_below (length amounts.now / 4 * 4) (slice_index amounts.now) }
+    ensures sums { WritesSums table.old table.new from to amounts.now 0 (length amounts.now / 4 * 4) }
+{
+    let mut differs = false;
+    let mut even = 0;
+    let mut odd = 0;
+    let mut begin = 0;
+    while begin + 4 <= amounts.len() {
+        even += amounts[begin] + amounts[begin + 2];
+        odd += amounts[begin + 1] + amounts[begin + 3];
+        differs |= write_four(table, from, to, amounts, begin);
+        begin += 4;
+    }
+    (differs, even + odd)
+}
+
+/// Writes one sum; whether the number there was another one.
+#[inline]
+fn write_one(table: &mut [u32], from: usize, to: usize, amounts: &[u64], place: usize) -> bool
+    requires apart { from + length amounts.now ≤ to }
+    requires within { to + length amounts.now ≤ length table.old }
+    requires one { place < length amounts.now }
+    requires small { (d : ℕ) → d < length amounts.now
+        → slice_index table.old (from + d) + slice_index amounts.now d < 2 ^ 31 }
+    ensures same { IsFalse result ↔ StandSums table.old from to amounts.now place (place + 1) }
+    ensures sums { WritesSums table.old table.new from to amounts.now place (place + 1) }
+{
+    let count = table[from + place] + amounts[place] as u32;
+    let differs = table[to + place] != count;
+    table[to + place] = count;
+    differs
+}
+
+/// Writes the last sums, fewer than four; whether some number there was another one, and the sum of their amounts.
+#[inline]
+fn write_last(table: &mut [u32], from: usize, to: usize, amounts: &[u64]) -> (bool, u64)
+    requires apart { from + length amounts.now ≤ to }
+    requires within { to + length amounts.now ≤ length table.old }
+    requires few { length amounts.now ≤ most_destinations }
+    requires small { (d : ℕ) → d < length amounts.now
+        → slice_index table.old (from + d) + slice_index amounts.now d < 2 ^ 31 }
+    ensures same { IsFalse result.0
+        ↔ StandSums table.old from to amounts.now (length amounts.now / 4 * 4) (length amounts.now) }
+    ensures whole { sum_below (length amounts.now / 4 * 4) (slice_index amounts.now) + result.1
+        ≡ sum_below (length amounts.now) (slice_index amounts.now) }
+    ensures sums { WritesSums table.old table.new from to amounts.now
+        (length amounts.now / 4 * 4) (length amounts.now) }
+{
+    let mut differs = false;
+    let mut whole = 0u64;
+    for place in amounts.len() / 4 * 4..amounts.len() {
+        whole += amounts[place];
+        differs |= write_one(table, from, to, amounts, place);
+    }
+    (differs, whole)
+}
+
+/// Writes numbers that begin at one place of a table, and amounts that are added, over those at another place, four at a time;
+/// whether some number there was another one, and the sum of the amounts.
 fn write_sums(table: &mut [u32], from: usize, to: usize, amounts: &[u64]) -> (bool, u64)
     requires apart { from + length amounts.now ≤ to }
     requires within { to + length amounts.now ≤ length table.old }
@@ -22,18 +116,9 @@ fn write_sums(table: &mut [u32], from: usize, to: usize, amounts: &[u64]) -> (bo
     ensures others { (i : ℕ) → (i < to) ⊎ (to + length amounts.now ≤ i)
         → slice_index table.new i ≡ slice_index table.old i }
 {
-    let mut whole = 0u64;
-    let mut same = 0u32;
-    for destination in 0..amounts.len() {
-        let amount = amounts[destination];
-        let count = table[from + destination] + amount as u32;
-        if table[to + destination] == count {
-            same += 1;
-        }
-        whole += amount;
-        table[to + destination] = count;
-    }
-    (same as usize != amounts.len(), whole)
+    let (fours_differ, fours_whole) = write_fours(table, from, to, amounts);
+    let (last_differ, last_whole) = write_last(table, from, to, amounts);
+    (fours_differ | last_differ, fours_whole + last_whole)
 }
 
 impl Curves {
