@@ -13,4 +13,5 @@ pub record ReadsFlows (s : Setting) (c : Counts) (u t : ℕ) (n : Inputs) : Type
   pub shape : n.shape ≡ shape_at s u
   pub width : length n.row ≡ width n.shape
   pub sends : take (counts_begin n.shape) n.row ≡ sending_part s c u t
-  pub limits : slice_range n.row (supplies_begin n.shape) (weights_begin n.shape) ≡ supply_part s c u t ++ capacity_part s u
+  pub limits : slice_range n.row (supplies_begin n.shape) (weights_begin n.shape) ≡
+      supply_part s c u t ++ capacity_part s u
