@@ -53,7 +53,7 @@ some_column h w i l = elim (cases_lt 0 w) [
 sending_narrow : (n : Inputs) (arm d : ℕ) → IsSolvable n → arm < n.shape.arms → d < n.shape.destinations → sending n arm d < 2 ^ 16
 sending_narrow n arm d is l m = omega (arith, le-sum_below n.shape.destinations (λ e. sending n arm e) d m, is.within_capacity arm l, is.capacities arm l)
 
-sends_narrow : (n : Inputs) (xs : List ℕ) → IsSolvable n → xs ≡ take (counts_begin n.shape) n.row → (i : ℕ) → i < length xs → slice_index xs i < 2 ^ 16
+pub sends_narrow : (n : Inputs) (xs : List ℕ) → IsSolvable n → xs ≡ take (counts_begin n.shape) n.row → (i : ℕ) → i < length xs → slice_index xs i < 2 ^ 16
 sends_narrow n xs is part i l =
     let w : ℕ = n.shape.destinations in
     let low : i < n.shape.arms * w = omega (arith, l, ap (λ (z : List ℕ). length z) part, length-take (counts_begin n.shape) n.row) in
@@ -68,7 +68,7 @@ sends_narrow n xs is part i l =
     )
 
 -- ---- supplies and capacities
-limits_narrow : (n : Inputs) (xs : List ℕ) → IsSolvable n → xs ≡ slice_range n.row (supplies_begin n.shape) (weights_begin n.shape) → (i : ℕ) → i < length xs → slice_index xs i < 2 ^ 16
+pub limits_narrow : (n : Inputs) (xs : List ℕ) → IsSolvable n → xs ≡ slice_range n.row (supplies_begin n.shape) (weights_begin n.shape) → (i : ℕ) → i < length xs → slice_index xs i < 2 ^ 16
 limits_narrow n xs is part i l =
     let first : ℕ = supplies_begin n.shape in
     let low : i < n.shape.outs + n.shape.arms = omega (arith, l, ap (λ (z : List ℕ). length z) part, length-take (weights_begin n.shape - first) (drop first n.row)) in

@@ -42,7 +42,7 @@ row_of k u t = amounts_of k u t ++ weights_of k u t
 abbrev pub has_row : KeptRows → ℕ → ℕ → Bool
 has_row k u t = is_marked k.there u t
 
--- whether the weights in the place of a pair are marked as those of its setting
+-- whether a pair is weighed: its weights are marked as those of the setting
 abbrev pub is_weighed : KeptRows → ℕ → ℕ → Bool
 is_weighed k u t = is_marked k.weighed u t
 

@@ -21,7 +21,7 @@ use std::alloc::Global;
 
 /// For each pair of node and slot for which they were put there, its amounts, of 16 bits each, and its weights, of 32, in two
 /// flat tables: `narrow` says where amounts lie, and `wide` where weights do. A pair is marked in `there` where its row was
-/// put, and in `weighed` where its weights are those that the setting has as it is now.
+/// put, and in `weighed` where its weights are known to be those of the setting as it is.
 #[derive(Drop)]
 pub struct KeptRows {
     slots: usize,

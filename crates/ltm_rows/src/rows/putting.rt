@@ -63,7 +63,7 @@ impl KeptRows {
         write_row(&mut self.weights[from..to], weights);
     }
 
-    /// Puts a row in the place of a pair's, with the weights of the setting, and changes no other.
+    /// Puts a row with the weights of the setting in the place of a pair's, which is weighed, and changes no other.
     #[inline(always)]
     pub fn put(&mut self, node: usize, slot: usize, parts: Parts<'_>)
         requires node { node < nodes_kept self.old }
@@ -80,7 +80,7 @@ impl KeptRows {
         self.weighed.mark(node, slot);
     }
 
-    /// Puts amounts in the place of a pair's whose weights stand there. Those that are given are not looked at.
+    /// Puts amounts in the place of a pair's that is weighed: its weights stand there, and those that are given are not looked at.
     #[inline]
     pub fn put_again(&mut self, node: usize, slot: usize, parts: Parts<'_>)
         requires node { node < nodes_kept self.old }

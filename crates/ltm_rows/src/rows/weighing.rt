@@ -1,4 +1,4 @@
-//! The weights of pairs, and which of them are those that the setting has as it is now.
+//! The weights of pairs, and of which of them it is known that they are those of the setting as it is.
 ghost use Rattle.std.specs.Prelude.{◌≡◌, ℕ, ◌+◌, ◌-◌, ◌*◌, ◌<◌, ◌≤◌, ◌&&◌, not, false, length, IsTrue};
 ghost use Rattle.ltm_marks.specs.Marks.{width_of, rows_of, is_marked, SameSize};
 ghost use Rattle.ltm_inputs.specs.Parts.{weights_part};
@@ -51,7 +51,7 @@ impl KeptRows {
       Weighs,
     };
 
-    /// Whether the weights in the place of a pair are marked as those of the setting.
+    /// Whether the pair is weighed: its weights are known to be those of the setting.
     #[inline]
     pub fn is_weighed(&self, node: usize, slot: usize) -> bool
         requires node { node < nodes_kept self.now }
@@ -74,8 +74,7 @@ impl KeptRows {
         &self.weights[from..to]
     }
 
-    /// The weights of the pairs of a node in some slots, the last not included, are marked no more: those of the setting may be
-    /// others.
+    /// The pairs of a node in some slots, the last not included, are weighed no more: the setting may have other weights.
     pub fn unweigh(&mut self, node: usize, from: usize, to: usize)
         requires node { node < nodes_kept self.old }
         requires to { to ≤ slots_kept self.old }
@@ -132,8 +131,8 @@ impl KeptRows {
         self.read_weights(scenario, pair);
     }
 
-    /// Puts the weights of a pair of a scenario in their place, which is marked, and changes no others. Those of the slot before
-    /// stand there already, and are copied where no split row of the node begins. Takes no memory.
+    /// Puts the weights that a pair of a scenario has, and changes no others; the pair is weighed. Those of the slot before stand
+    /// there already, and are copied where no split row of the node begins. Takes no memory.
     pub fn weigh(&mut self, scenario: &Scenario, begins: &Begins, pair: Pair)
         requires rows { HasRows (setting_of scenario.now) (setting_of scenario.now).slots self.old }
         requires node { IsNode scenario.now pair.node.0 }
