@@ -86,8 +86,9 @@ fn put_many(numbers: &[u32], into: &mut [u64])
     put_few(&numbers[place..], &mut into[place..]);
 }
 
-/// Whether any amount is above 0.
-pub(crate) fn is_any_sent(amounts: &[u64]) -> bool
+/// Whether any amount is above 0, one by one.
+#[inline]
+fn is_one_sent(amounts: &[u64]) -> bool
     ensures { IsFalse result ↔ ((k : ℕ) → k < length amounts.now → slice_index amounts.now k ≡ 0) }
 {
     for amount in amounts {
@@ -96,4 +97,29 @@ pub(crate) fn is_any_sent(amounts: &[u64]) -> bool
         }
     }
     false
+}
+
+/// Whether any of the four amounts from a place on is above 0.
+#[inline]
+fn is_four_sent(amounts: &[u64], place: usize) -> bool
+    requires { place + 4 ≤ length amounts.now }
+    ensures { IsFalse result ↔ ((k : ℕ) → place ≤ k → k < place + 4 → slice_index amounts.now k ≡ 0) }
+{
+    let front = (amounts[place] != 0) | (amounts[place + 1] != 0);
+    let back = (amounts[place + 2] != 0) | (amounts[place + 3] != 0);
+    front | back
+}
+
+/// Whether any amount is above 0: four at a time, since most arms send nothing.
+pub(crate) fn is_any_sent(amounts: &[u64]) -> bool
+    ensures { IsFalse result ↔ ((k : ℕ) → k < length amounts.now → slice_index amounts.now k ≡ 0) }
+{
+    let mut place = 0;
+    while place + 4 <= amounts.len() {
+        if is_four_sent(amounts, place) {
+            return true;
+        }
+        place += 4;
+    }
+    is_one_sent(&amounts[place..])
 }
