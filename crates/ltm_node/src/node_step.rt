@@ -44,8 +44,7 @@ pub fn write_moves(inputs: &NodeInputs, outputs: &mut NodeOutputs)
     step(&Reading::uncounted(inputs), outputs);
 }
 
-/// Writes the node step of the inputs as they are read. It is in line in both calls, so that a narrow node does not ask
-/// whether its counts are read.
+/// Writes the node step of the inputs as they are read.
 #[inline(always)]
 fn step(inputs: &Reading<'_>, outputs: &mut NodeOutputs)
     requires solvable { IsSolvable inputs.now }
