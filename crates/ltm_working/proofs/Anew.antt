@@ -56,6 +56,7 @@ ready_without s c k ready has same = record {
   sound = subst (λ (d : Desk). IsSound s d) (sym same) ready.sound;
   index = subst (λ (d : Desk). IndexIsCurrent s d (place_of c.index)) (sym same) ready.index;
   claims = subst (λ (d : Desk). ClaimsArePlaced s d (place_of c.index)) (sym same) ready.claims;
+  weights = ready.weights;
 }
 
 -- a pair that was found, claimed and freed leaves no claim of its node

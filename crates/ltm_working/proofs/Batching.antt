@@ -37,16 +37,17 @@ use Rattle.ltm_rows.specs.declared.rows.KeptRows.{KeptRows}
 use Rattle.ltm_rows.specs.Layouts.{LiesAs}
 use Rattle.ltm_rows.specs.Starts.{part_width}
 use Rattle.ltm_rows.specs.Claims.{claim_row, HasClaims}
-use Rattle.ltm_rows.specs.Rows.{kept_row, HasRows}
+use Rattle.ltm_rows.specs.Rows.{nodes_kept, slots_kept, is_weighed, kept_row, HasRows}
 use Rattle.ltm_working.specs.Pairs.{of_cells}
 use Rattle.ltm_working.specs.Desks.{with_node_counts, kept_of, desk_at, place_of, changed_at}
-use Rattle.ltm_working.specs.Ready.{FitsTable, IsReady}
+use Rattle.ltm_working.specs.Ready.{FitsTable, WeightsAreCurrent, IsReady}
 use Rattle.ltm_working.specs.Growing.{horizon_of, at_horizon, TableHasRoom, Lengthens}
-use Rattle.ltm_working.specs.Batches.{LeadsTo, touches, TakesIn, TablesFit}
+use Rattle.ltm_working.specs.Batches.{LeadsTo, touches, UnweighsAll, TakesIn, TablesFit}
 use Rattle.ltm_working.proofs.Bools.{or_false, or_right}
-use Rattle.ltm_rows.proofs.KeptPlaces.{rows_at, stays_kept, none_kept}
+use Rattle.ltm_rows.proofs.KeptPlaces.{rows_at, rows_lie, stays_kept, none_kept}
 use Rattle.ltm_working.proofs.Desks.{of_pair, past_pair, cases_pairs, active_is, claimed_is, active_past, claimed_past, claim_off}
 use Rattle.ltm_working.proofs.Standing.{same_place}
+use Rattle.ltm_working.proofs.Weighing.{still_weighed, weights_same}
 use Rattle.ltm_working.proofs.ChangedCells.{cell_of, no_cell, cases_cells}
 
 -- ---- one network, and horizons
@@ -138,13 +139,14 @@ touched_same a b (edit ∷ edits) u t same before =
     ap (λ z. z || is_touched b edits u t) one ∙ ap (λ z. lies_in_one (touched_by a edit) u t || z) (touched_same a b edits u t same before)
 
 -- ---- the desk after a batch
-pub record TakesBatch (before after : ScenarioData) (edits : List Edit) (t g : Table) (m f e : Frontier) : Type 0 where
+pub record TakesBatch (before after : ScenarioData) (edits : List Edit) (t g : Table) (m f e : Frontier) (held : KeptRows) : Type 0 where
   pub setting : IsSetting (setting_of after)
   pub leads : LeadsTo before after edits
   pub ready : IsReady (setting_of before) t
   pub grows : Lengthens t g (setting_of after).slots
   pub voids : Voids g.frontier m
   pub marks : Activates m f (is_touched after edits)
+  pub unweighs : UnweighsAll g.kept held (is_touched after edits)
   pub news : Activates f e (λ u v. nat_le (horizon_of t) v)
 
 some_if : (b : Bool) (row : List ℕ) → is_some (if b then Some row else None) ≡ b
@@ -156,9 +158,9 @@ and_all true b e = rw e refl
 and_all false b e = refl
 
 -- a pair is active where it was active or claimed, where it is touched, and where it is new
-active_then : (before after : ScenarioData) (edits : List Edit) (t g : Table) (m f e : Frontier) (u v : ℕ) → TakesBatch before after edits t g m f e → u < (setting_of after).nodes → v < (setting_of after).slots →
+active_then : (before after : ScenarioData) (edits : List Edit) (t g : Table) (m f e : Frontier) (held : KeptRows) (u v : ℕ) → TakesBatch before after edits t g m f e held → u < (setting_of after).nodes → v < (setting_of after).slots →
     is_active e u v ≡ (((is_active t.frontier u v || is_claimed t.frontier u v) || is_touched after edits u v) || nat_le (horizon_of t) v)
-active_then before after edits t g m f e u v is x l =
+active_then before after edits t g m f e held u v is x l =
     let r : Setting = setting_of before in
     let network : SameNetwork r (setting_of after) = one_network before after is.leads.shape in
     let in_g : u < nodes_in g.frontier = omega (arith, x, network.nodes, is.ready.fits.frontier.nodes, is.grows.pairs.nodes) in
@@ -174,23 +176,23 @@ active_then before after edits t g m f e u v is x l =
     ∙ ap (λ z. z || is_touched after edits u v) (is.voids.active u v in_g at_g
     ∙ (ap (λ z. z || is_claimed g.frontier u v) (is.grows.pairs.active u v) ∙ ap (λ z. is_active t.frontier u v || z) (is.grows.pairs.claims.pairs u v))))))
 
-free_then : (before after : ScenarioData) (edits : List Edit) (t g : Table) (m f e : Frontier) (u v : ℕ) → TakesBatch before after edits t g m f e → u < (setting_of after).nodes → is_claimed e u v ≡ false
-free_then before after edits t g m f e u v is x =
+free_then : (before after : ScenarioData) (edits : List Edit) (t g : Table) (m f e : Frontier) (held : KeptRows) (u v : ℕ) → TakesBatch before after edits t g m f e held → u < (setting_of after).nodes → is_claimed e u v ≡ false
+free_then before after edits t g m f e held u v is x =
     let network : SameNetwork (setting_of before) (setting_of after) = one_network before after is.leads.shape in
     is.news.claims.pairs u v ∙ (is.marks.claims.pairs u v ∙ is.voids.none u v (omega (arith, x, network.nodes, is.ready.fits.frontier.nodes, is.grows.pairs.nodes)))
 
 -- what is kept of the pairs that were there stays, and the counts of their nodes do
-kept_then : (before after : ScenarioData) (edits : List Edit) (t g : Table) (m f e : Frontier) (u v : ℕ) → TakesBatch before after edits t g m f e → u < (setting_of after).nodes → v < (setting_of before).slots →
-    kept_of (setting_of after) (record g { frontier = e }) u v ≡ kept_of (setting_of before) t u v
-kept_then before after edits t g m f e u v is x l =
+kept_then : (before after : ScenarioData) (edits : List Edit) (t g : Table) (m f e : Frontier) (held : KeptRows) (u v : ℕ) → TakesBatch before after edits t g m f e held → u < (setting_of after).nodes → v < (setting_of before).slots →
+    kept_of (setting_of after) (record g { frontier = e; kept = held }) u v ≡ kept_of (setting_of before) t u v
+kept_then before after edits t g m f e held u v is x l =
     let r : Setting = setting_of before in
     let s : Setting = setting_of after in
     let network : SameNetwork r s = one_network before after is.leads.shape in
     let all : groups r ≡ groups s = all_groups r s network in
     let nodes : r.nodes ≡ s.nodes = network.nodes in
     let horizon : horizon_of t ≡ r.slots = is.ready.fits.curves.same_slots in
-    let row : kept_row g.kept u v ≡ kept_row t.kept u v =
-    stays_kept t.kept g.kept u v is.grows.kept (omega (arith, x, nodes, is.ready.fits.kept.amounts.nodes)) (omega (arith, l, is.ready.fits.kept.same_slots)) in
+    let row : kept_row held u v ≡ kept_row t.kept u v =
+    is.unweighs.rows u v ∙ stays_kept t.kept g.kept u v is.grows.kept (omega (arith, x, nodes, is.ready.fits.kept.amounts.nodes)) (omega (arith, l, is.ready.fits.kept.same_slots)) in
     let counts : count_row s (counts_of g.curves) u v ≡ count_row s (counts_of t.curves) u v =
     counts_set_only_holds s (counts_of g.curves) (counts_of t.curves) u v is.setting x
     (λ a d of k. is.grows.counts a d v (record {
@@ -202,13 +204,13 @@ kept_then before after edits t g m f e u v is x l =
     ∙ (ap (λ (z : List ℕ). option_map (λ (y : List ℕ). take (counts_begin (shape_at s u)) y ++ (z ++ drop (counts_begin (shape_at s u)) y)) (kept_row t.kept u v)) counts
     ∙ sym (ap (λ (f : List ℕ → List ℕ). option_map f (kept_row t.kept u v)) (fun_ext (λ y. filled_same r s (counts_of t.curves) u v y network))))
 
-accepts_desk : (before after : ScenarioData) (edits : List Edit) (t g : Table) (m f e : Frontier) → TakesBatch before after edits t g m f e →
-    Accepts (setting_of before) (setting_of after) (desk_at (setting_of before) t) (touches before edits) (desk_at (setting_of after) (record g { frontier = e }))
+accepts_desk : (before after : ScenarioData) (edits : List Edit) (t g : Table) (m f e : Frontier) (held : KeptRows) → TakesBatch before after edits t g m f e held →
+    Accepts (setting_of before) (setting_of after) (desk_at (setting_of before) t) (touches before edits) (desk_at (setting_of after) (record g { frontier = e; kept = held }))
 unfolding desk_at
-accepts_desk before after edits t g m f e is =
+accepts_desk before after edits t g m f e held is =
     let r : Setting = setting_of before in
     let s : Setting = setting_of after in
-    let new : Table = record g { frontier = e } in
+    let new : Table = record g { frontier = e; kept = held } in
     let network : SameNetwork r s = one_network before after is.leads.shape in
     let slots : r.slots ≤ s.slots = longer before after is.leads.shape in
     let all : groups r ≡ groups s = all_groups r s network in
@@ -230,21 +232,21 @@ accepts_desk before after edits t g m f e is =
         old_kept = λ u v l. elim (cases_lt u s.nodes) [
           | inl x ↦
               of_pair s None (kept_of s new) u v x (omega (arith, l, slots))
-              ∙ (kept_then before after edits t g m f e u v is x l
+              ∙ (kept_then before after edits t g m f e held u v is x l
               ∙ sym (of_pair r None (kept_of r t) u v (omega (arith, x, nodes)) l))
           | inr past ↦ past_pair s None (kept_of s new) u v (inl past) ∙ sym (past_pair r None (kept_of r t) u v (inl (omega (arith, past, nodes))))
         ];
         new_kept = λ u v late most. elim (cases_lt u s.nodes) [
           | inl x ↦
               of_pair s None (kept_of s new) u v x most
-              ∙ ap (option_map (with_node_counts s (counts_of g.curves) u v)) (none_kept g.kept u v (is.grows.none_kept u v (omega (arith, x, nodes, is.ready.fits.kept.amounts.nodes)) (omega (arith, late, is.ready.fits.kept.same_slots))))
+              ∙ ap (option_map (with_node_counts s (counts_of g.curves) u v)) (is.unweighs.rows u v ∙ none_kept g.kept u v (is.grows.none_kept u v (omega (arith, x, nodes, is.ready.fits.kept.amounts.nodes)) (omega (arith, late, is.ready.fits.kept.same_slots))))
           | inr past ↦ past_pair s None (kept_of s new) u v (inl past)
         ];
       };
       readers = λ u v x l off.
           is.leads.reads.inputs (counts_of t.curves) u v (omega (arith, l, horizon_is before)) (sym (of_pair r false (is_touched before edits) u v (omega (arith, x, nodes)) l) ∙ off);
       void = λ u v. elim (cases_pairs s u v) [
-        | inl in_range ↦ claimed_is s new u v in_range.0 in_range.1 ∙ claim_off new u v (free_then before after edits t g m f e u v is in_range.0)
+        | inl in_range ↦ claimed_is s new u v in_range.0 in_range.1 ∙ claim_off new u v (free_then before after edits t g m f e held u v is in_range.0)
         | inr past ↦ claimed_past s new u v past
       ];
       old_active = λ u v l. elim (cases_lt u s.nodes) [
@@ -253,7 +255,7 @@ accepts_desk before after edits t g m f e is =
             let node : u < r.nodes = omega (arith, x, nodes) in
             let there : nat_le (horizon_of t) v ≡ false = lt-leb (horizon_of t) v (omega (arith, l, horizon)) in
             let now : is_active e u v ≡ ((is_active t.frontier u v || is_claimed t.frontier u v) || is_touched before edits u v) =
-            active_then before after edits t g m f e u v is x late
+            active_then before after edits t g m f e held u v is x late
             ∙ (ap (λ z. ((is_active t.frontier u v || is_claimed t.frontier u v) || is_touched after edits u v) || z) there
             ∙ (or_false ((is_active t.frontier u v || is_claimed t.frontier u v) || is_touched after edits u v)
             ∙ ap (λ z. (is_active t.frontier u v || is_claimed t.frontier u v) || z) (touched_same before after edits u v is.leads.shape (omega (arith, l, horizon_is before))))) in
@@ -269,14 +271,14 @@ accepts_desk before after edits t g m f e is =
             ∙ (ap (λ z. (false || is_some z) || touches before edits u v) (claimed_past r t u v old_past) ∙ past_pair r false (is_touched before edits) u v old_past))
       ];
       new_active = λ u v x late most.
-          active_is s new u v x most ∙ (active_then before after edits t g m f e u v is x most
+          active_is s new u v x most ∙ (active_then before after edits t g m f e held u v is x most
           ∙ or_right ((is_active t.frontier u v || is_claimed t.frontier u v) || is_touched after edits u v) (nat_le (horizon_of t) v) (le-leb (horizon_of t) v (omega (arith, late, horizon))));
     }
 
 -- no cell is changed that was not
-cells_then : (before after : ScenarioData) (edits : List Edit) (t g : Table) (m f e : Frontier) → TakesBatch before after edits t g m f e → changed_at (setting_of after) (record g { frontier = e }) ≡ changed_at (setting_of before) t
+cells_then : (before after : ScenarioData) (edits : List Edit) (t g : Table) (m f e : Frontier) (held : KeptRows) → TakesBatch before after edits t g m f e held → changed_at (setting_of after) (record g { frontier = e; kept = held }) ≡ changed_at (setting_of before) t
 unfolding changed_at
-cells_then before after edits t g m f e is =
+cells_then before after edits t g m f e held is =
     let r : Setting = setting_of before in
     let s : Setting = setting_of after in
     let network : SameNetwork r s = one_network before after is.leads.shape in
@@ -298,8 +300,8 @@ cells_then before after edits t g m f e is =
           none ∙ sym (no_cell r (is_changed t.changed) a k past)
     ]))
 
-fits_then : (before after : ScenarioData) (edits : List Edit) (t g : Table) (m f e : Frontier) → TakesBatch before after edits t g m f e → FitsTable (setting_of after) (record g { frontier = e })
-fits_then before after edits t g m f e is =
+fits_then : (before after : ScenarioData) (edits : List Edit) (t g : Table) (m f e : Frontier) (held : KeptRows) → TakesBatch before after edits t g m f e held → FitsTable (setting_of after) (record g { frontier = e; kept = held })
+fits_then before after edits t g m f e held is =
     let r : Setting = setting_of before in
     let s : Setting = setting_of after in
     let network : SameNetwork r s = one_network before after is.leads.shape in
@@ -311,7 +313,7 @@ fits_then before after edits t g m f e is =
         same_destinations = is.grows.curves.same_destinations ∙ (is.ready.fits.curves.same_destinations ∙ network.destinations);
         same_slots = is.grows.curves.same_slots;
       };
-      kept = rows_at s r.slots s.slots t.kept g.kept rows is.grows.kept.places is.grows.kept_slots;
+      kept = rows_lie s s.slots g.kept held (rows_at s r.slots s.slots t.kept g.kept rows is.grows.kept.places is.grows.kept_slots) is.unweighs.places is.unweighs.slots;
       claims = subst (λ (z : ClaimRows). HasClaims s z) (sym is.grows.claims) (lies_same r s All _ network is.ready.fits.claims);
       frontier = record {
         nodes = is.news.size.nodes ∙ (is.marks.size.nodes ∙ (is.voids.size.nodes ∙ (is.grows.pairs.nodes ∙ (is.ready.fits.frontier.nodes ∙ network.nodes))));
@@ -321,17 +323,42 @@ fits_then before after edits t g m f e is =
       changed = record { same_groups = is.grows.cells.same_groups ∙ (is.ready.fits.changed.same_groups ∙ all); same_slots = is.grows.cells.same_slots };
     }
 
-pub takes_batch : (before after : ScenarioData) (edits : List Edit) (t g : Table) (m f e : Frontier) → TakesBatch before after edits t g m f e → TakesIn before after edits t (record g { frontier = e })
-unfolding desk_at
-takes_batch before after edits t g m f e is =
+-- outside the reaches of the edits the weights are those of the setting before
+weights_then : (before after : ScenarioData) (edits : List Edit) (t g : Table) (m f e : Frontier) (held : KeptRows) → TakesBatch before after edits t g m f e held → WeightsAreCurrent (setting_of after) held
+weights_then before after edits t g m f e held is = λ u v x l on.
     let r : Setting = setting_of before in
     let s : Setting = setting_of after in
-    let new : Table = record g { frontier = e } in
     let network : SameNetwork r s = one_network before after is.leads.shape in
-    let accepts : Accepts r s (desk_at r t) (touches before edits) (desk_at s new) = accepts_desk before after edits t g m f e is in
+    let node : u < r.nodes = omega (arith, x, network.nodes) in
+    let in_t : u < nodes_kept t.kept = omega (arith, node, is.ready.fits.kept.amounts.nodes) in
+    let in_g : u < nodes_kept g.kept = rw is.grows.kept.places.narrow in_t in
+    let still = still_weighed g.kept held (is_touched after edits) u v is.unweighs in_g (omega (arith, l, is.grows.kept_slots)) on in
+    let slot : v < r.slots = elim (cases_lt v r.slots) [
+      | inl slot ↦ slot
+      | inr late ↦
+          let on_g : is_weighed g.kept u v ≡ true = still.0 in
+          let off : is_weighed g.kept u v ≡ false = is.grows.none_weighed u v in_t (omega (arith, late, is.ready.fits.kept.same_slots)) in
+          absurd (cc)
+    ] in
+    let there : v < slots_kept t.kept = omega (arith, slot, is.ready.fits.kept.same_slots) in
+    let time : v < before.setup.slots = omega (arith, slot, horizon_is before) in
+    let off : is_touched before edits u v ≡ false = sym (touched_same before after edits u v is.leads.shape time) ∙ still.1 in
+    is.unweighs.weights u v
+    ∙ (is.grows.kept.weights u v in_t there
+    ∙ (is.ready.weights u v node slot (sym (is.grows.kept.weighed u v) ∙ still.0)
+    ∙ sym (weights_same r s (counts_of t.curves) u v network (is.leads.reads.inputs (counts_of t.curves) u v time off))))
+
+pub takes_batch : (before after : ScenarioData) (edits : List Edit) (t g : Table) (m f e : Frontier) (held : KeptRows) → TakesBatch before after edits t g m f e held → TakesIn before after edits t (record g { frontier = e; kept = held })
+unfolding desk_at
+takes_batch before after edits t g m f e held is =
+    let r : Setting = setting_of before in
+    let s : Setting = setting_of after in
+    let new : Table = record g { frontier = e; kept = held } in
+    let network : SameNetwork r s = one_network before after is.leads.shape in
+    let accepts : Accepts r s (desk_at r t) (touches before edits) (desk_at s new) = accepts_desk before after edits t g m f e held is in
     record {
       ready = record {
-        fits = fits_then before after edits t g m f e is;
+        fits = fits_then before after edits t g m f e held is;
         sound = accept_keeps r s (desk_at r t) (touches before edits) (desk_at s new) is.setting network is.ready.sound accepts;
         index = index_stays_current.accept r s (desk_at r t) (desk_at s new) (touches before edits) (place_of t.index) (place_of g.index) is.setting network accepts
             (record {
@@ -346,7 +373,8 @@ takes_batch before after edits t g m f e is =
             })
             is.ready.index;
         claims = λ u v x l some. absurd (some (accepts.void u v));
+        weights = weights_then before after edits t g m f e held is;
       };
       accepts = accepts;
-      cells = cells_then before after edits t g m f e is;
+      cells = cells_then before after edits t g m f e held is;
     }

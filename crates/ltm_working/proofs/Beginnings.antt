@@ -1,5 +1,5 @@
 -- The table of a loading at rest.
-use Rattle.std.proofs.Common.{◌≡◌, ℕ, ◌+◌, ◌<◌, ◌&&◌, nat_lt, nat_le, false, refl, ap, sym, ◌∙◌, subst, arith, inl, inr}
+use Rattle.std.proofs.Common.{◌≡◌, ℕ, ◌+◌, ◌<◌, ◌&&◌, nat_lt, nat_le, replicate, false, refl, ap, sym, ◌∙◌, subst, arith, inl, inr}
 use Rattle.std.proofs.lemmas.Bool.{cases_lt, cases_eq}
 use Rattle.ltm_curve.specs.Counts.{Counts, total}
 use Rattle.ltm_curve.specs.Table.{counts_of}
@@ -20,15 +20,18 @@ use Rattle.ltm_repair.proofs.Opening.{opening_is_repair}
 use Rattle.ltm_rows.specs.declared.rows.KeptRows.{KeptRows}
 use Rattle.ltm_working.specs.declared.table.Table.{Table}
 use Rattle.ltm_rows.specs.Claims.{HasClaims}
-use Rattle.ltm_rows.specs.Rows.{PutsRow, HasRows}
+use Rattle.ltm_rows.specs.declared.layout.Layout.{Layout}
+use Rattle.ltm_rows.specs.Layouts.{width_in}
+use Rattle.ltm_rows.specs.Rows.{nodes_kept, slots_kept, is_weighed, PutsRow, HasRows}
 use Rattle.ltm_working.specs.Pairs.{of_cells}
 use Rattle.ltm_working.specs.Desks.{row_without_counts, desk_at, changed_at}
 use Rattle.ltm_working.specs.Ready.{IsReady, IsOpened, HasLists}
-use Rattle.ltm_working.specs.Placing.{StandsAt, PlacesPair, KeepsPair, KeepsSlots}
+use Rattle.ltm_working.specs.Placing.{StandsAt, PlacesPair, KeepsPair, HasZeros, KeepsSlots}
 use Rattle.ltm_working.proofs.Bools.{and_false}
 use Rattle.ltm_rows.proofs.KeptPlaces.{put_kept, put_other, rows_lie}
 use Rattle.ltm_working.proofs.Desks.{cases_pairs, kept_is, active_past, claimed_past, idle_here}
 use Rattle.ltm_working.proofs.Keeping.{kept_whole}
+use Rattle.ltm_working.proofs.Weighing.{weighed_put}
 use Rattle.ltm_working.proofs.Listing.{place_is}
 
 -- ---- pair after pair
@@ -43,30 +46,49 @@ pub keeps_next : (s : Setting) (c : Counts) (a b : KeptRows) (x y : ReadIndex) (
 keeps_next s c a b x y slot u is node low keeps puts places =
     let still : (w v : ℕ) → w < s.nodes → v < s.slots → IsOther u slot w v → KeepsPair s c a x w v → KeepsPair s c b y w v = λ w v p q other pair. record {
       row = put_other a b u slot (row_without_counts s u (pair_row s c u slot)) w v puts (omega (arith, p, keeps.rows.amounts.nodes)) (omega (arith, q, keeps.rows.same_slots)) other ∙ pair.row;
+      weighed = puts.others_weighed w v (omega (arith, p, keeps.rows.amounts.nodes)) (omega (arith, q, keeps.rows.same_slots)) other ∙ pair.weighed;
       placed = stands_still s c x y u slot w v is node p other places pair.placed;
     } in
+    let zeros : (w v : ℕ) → w < s.nodes → v < s.slots → IsOther u slot w v → HasZeros a w v → HasZeros b w v = λ w v p q other none.
+    puts.others_amounts w v (omega (arith, p, keeps.rows.amounts.nodes)) (omega (arith, q, keeps.rows.same_slots)) other
+    ∙ (none ∙ ap (λ (z : Layout). replicate (width_in z w) 0) (sym puts.places.narrow)) in
     record {
       rows = rows_lie s s.slots a b keeps.rows puts.places puts.slots;
       lists = places.lists;
+      weights = weighed_put s a b c u slot (row_without_counts s u (pair_row s c u slot)) keeps.rows node low keeps.weights puts refl;
       earlier = λ w v p q. still w v p (omega arith) (λ same at. omega arith) (keeps.earlier w v p q);
       here = λ w p. elim (cases_eq w u) [
         | inr apart ↦ still w slot (omega arith) low (λ same at. apart (sym same)) (keeps.here w (omega arith))
-        | inl same ↦ subst (λ (z : ℕ). KeepsPair s c b y z slot) (sym same) (record { row = put_kept a b u slot (row_without_counts s u (pair_row s c u slot)) puts; placed = places.placed })
+        | inl same ↦ subst (λ (z : ℕ). KeepsPair s c b y z slot) (sym same) (record { row = put_kept a b u slot (row_without_counts s u (pair_row s c u slot)) puts; weighed = puts.weighed; placed = places.placed })
       ];
+      rest = λ w n p q. zeros w slot p q (λ same at. omega (arith, same, n)) (keeps.rest w (omega (arith, n)) p q);
+      later = λ w v p l q. zeros w v p q (λ same at. omega (arith, at, l)) (keeps.later w v p l q);
     }
 
-pub keeps_first : (s : Setting) (c : Counts) (a : KeptRows) (x : ReadIndex) → HasRows s s.slots a → HasLists s x → KeepsSlots s c a x 0 0
-keeps_first s c a x rows lists = record { rows = rows; lists = lists; earlier = λ w v p q. absurd (omega arith); here = λ w p. absurd (omega arith) }
+pub keeps_first : (s : Setting) (c : Counts) (a : KeptRows) (x : ReadIndex) → HasRows s s.slots a → HasLists s x → ((u t : ℕ) → is_weighed a u t ≡ false) →
+    ((u t : ℕ) → u < nodes_kept a → t < slots_kept a → HasZeros a u t) → KeepsSlots s c a x 0 0
+keeps_first s c a x rows lists none zeros = record {
+  rows = rows;
+  lists = lists;
+  weights = λ u t p q on. let off : is_weighed a u t ≡ false = none u t in absurd (cc);
+  earlier = λ w v p q. absurd (omega arith);
+  here = λ w p. absurd (omega arith);
+  rest = λ w n p q. zeros w 0 (omega (arith, p, rows.amounts.nodes)) (omega (arith, q, rows.same_slots));
+  later = λ w v p l q. zeros w v (omega (arith, p, rows.amounts.nodes)) (omega (arith, q, rows.same_slots));
+}
 
 pub keeps_slot : (s : Setting) (c : Counts) (a : KeptRows) (x : ReadIndex) (slot nodes : ℕ) → nodes ≡ s.nodes → KeepsSlots s c a x slot nodes → KeepsSlots s c a x (slot + 1) 0
 keeps_slot s c a x slot nodes all keeps = record {
   rows = keeps.rows;
   lists = keeps.lists;
+  weights = keeps.weights;
   earlier = λ w v p q. elim (cases_lt v slot) [
     | inl low ↦ keeps.earlier w v p low
     | inr high ↦ subst (λ (z : ℕ). KeepsPair s c a x w z) (let at : slot ≡ v = omega arith in at) (keeps.here w (omega arith))
   ];
   here = λ w p. absurd (omega arith);
+  rest = λ w n p q. keeps.later w (slot + 1) p (omega arith) q;
+  later = λ w v p l q. keeps.later w v p (omega (arith, l)) q;
 }
 
 -- ---- the table
@@ -135,6 +157,7 @@ opened s t opens = record {
     sound = opens_sound s t opens;
     index = λ u v x l idle i m. place_is t.index (s.in_link u i) v (position s (counts_of t.curves) (s.in_link u i) v) ((opens.keeps.earlier u v x l).placed i m);
     claims = λ u v x l some. absurd (some (opens_idle s t u v opens).1);
+    weights = opens.keeps.weights;
   };
   loading = opens.loading;
   kept = λ u v x l. opens_kept s t u v opens x l;
@@ -157,6 +180,7 @@ cleared_ready s t c ready shape = record {
   sound = ready.sound;
   index = ready.index;
   claims = ready.claims;
+  weights = ready.weights;
 }
 
 pub cleared_none : (s : Setting) (t : Table) (g k : ℕ) → NoneChanged t.changed → changed_at s t g k ≡ false

@@ -23,14 +23,15 @@ use Rattle.ltm_pairs.specs.Readers.{reads_commit}
 use Rattle.ltm_working.specs.declared.table.Table.{Table}
 use Rattle.ltm_rows.specs.Claims.{claim_row}
 use Rattle.ltm_working.specs.Pairs.{of_pairs, of_cells}
-use Rattle.ltm_working.specs.Desks.{desk_at, place_of, changed_at}
+use Rattle.ltm_working.specs.Desks.{row_without_counts, desk_at, place_of, changed_at}
 use Rattle.ltm_working.specs.Ready.{IsReady}
-use Rattle.ltm_working.specs.Waking.{wakes}
+use Rattle.ltm_working.specs.Waking.{any_differs, wakes}
 use Rattle.ltm_working.specs.Committing.{readers, rewritten}
 use Rattle.ltm_working.proofs.Bools.{or_left, and_false}
 use Rattle.ltm_rows.proofs.KeptPlaces.{rows_lie}
 use Rattle.ltm_working.proofs.Reading.{SetsOutputs, ArePlaced, wakes_are_readers, early, early_reads}
 use Rattle.ltm_working.proofs.Desks.{of_pair, past_pair, cases_pairs, claimed_is, claim_same, claim_off, claimed_row, same_claim, idle_here}
+use Rattle.ltm_working.proofs.Weighing.{weighed_put, weighed_forget}
 use Rattle.ltm_working.proofs.Dropping.{pair_test, other_test, and_not}
 use Rattle.ltm_working.proofs.Taking.{one_slot}
 use Rattle.ltm_working.proofs.ChangedCells.{cell_of, no_cell, cases_cells, cells_differ}
@@ -162,6 +163,9 @@ commits_ready s t u v n o mid end is =
             let at : y ≡ v = one_slot s d y v is.ready.sound (w, p, q, was) (u, claim.is_node, claim.is_slot, λ none. let mine : d.claimed u v ≡ Some n.row = is.claimed in cc) in
             λ i l. is.ready.claims w y p q was i l ∙ sym (keeps w y i p q l (early_reads s d.counts e.counts u (v + 1) w y (omega (arith, at))))
       ];
+      weights = weighed_put s mid.kept end.kept d.counts u v (row_without_counts s u n.row) is.renews.fits.kept claim.is_node claim.is_slot
+          (weighed_forget s (any_differs s d.counts u (v + 1) o) t.kept mid.kept u (v + 1) is.ready.fits.kept is.ready.weights is.renews.kept)
+          is.puts (ap (row_without_counts s u) claim.now);
     }
 
 pub commits_cells : (s : Setting) (t : Table) (u v : ℕ) (n : Inputs) (o : Outputs) (mid end : Table) → CommitsTable s t u v n o mid end → (g b : ℕ) →

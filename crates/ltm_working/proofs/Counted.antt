@@ -127,16 +127,6 @@ two_sums c g t n a b before moves long wide stands first second =
     (λ d l. each_of (λ e. c g e t + slice_index moves e) _ ((b + slice_index moves 1) ∷ []) (read_sum c g t n a 0 before moves (omega (arith, long, wide)) stands first)
     (each_of (λ e. c g (suc e) t + slice_index moves (suc e)) _ [] (read_sum c g t n b 1 before moves (omega (arith, long, wide)) stands second) (λ e m. absurd (omega (arith, m)))) d (omega (arith, l, long)))
 
-pub four_sums : (c : Counts) (g t n a b x y : ℕ) (before moves : List ℕ) → length moves ≡ 4 → length moves ≡ n → ((e : ℕ) → e < n → slice_index before e ≡ c g e t) →
-    a ≡ slice_index before 0 → b ≡ slice_index before 1 → x ≡ slice_index before 2 → y ≡ slice_index before 3 →
-    (a + slice_index moves 0) ∷ (b + slice_index moves 1) ∷ (x + slice_index moves 2) ∷ (y + slice_index moves 3) ∷ [] ≡ counted_row Moved c g t moves
-four_sums c g t n a b x y before moves long wide stands first second third fourth =
-    sums_are c g t ((a + slice_index moves 0) ∷ (b + slice_index moves 1) ∷ (x + slice_index moves 2) ∷ (y + slice_index moves 3) ∷ []) moves (sym long)
-    (λ d l. each_of (λ e. c g e t + slice_index moves e) _ ((b + slice_index moves 1) ∷ (x + slice_index moves 2) ∷ (y + slice_index moves 3) ∷ []) (read_sum c g t n a 0 before moves (omega (arith, long, wide)) stands first)
-    (each_of (λ e. c g (suc e) t + slice_index moves (suc e)) _ ((x + slice_index moves 2) ∷ (y + slice_index moves 3) ∷ []) (read_sum c g t n b 1 before moves (omega (arith, long, wide)) stands second)
-    (each_of (λ e. c g (suc (suc e)) t + slice_index moves (suc (suc e))) _ ((y + slice_index moves 3) ∷ []) (read_sum c g t n x 2 before moves (omega (arith, long, wide)) stands third)
-    (each_of (λ e. c g (suc (suc (suc e))) t + slice_index moves (suc (suc (suc e)))) _ [] (read_sum c g t n y 3 before moves (omega (arith, long, wide)) stands fourth) (λ e m. absurd (omega (arith, m)))))) d (omega (arith, l, long)))
-
 arm_counted : (given : StepForm) (s : Setting) (old now : Counts) (u t n g d : ℕ) (o : Outputs) (xs : List ℕ) → o.shape ≡ shape_at s u → n < arms_of s u → d < s.destinations → g ≡ arm_group s u n → d < length xs →
     now g d t ≡ old g d t → slice_index xs d ≡ left_after o n d → slice_index (counted_row given now g t xs) d ≡ left_after (counts_by_form given s old u t o) n d
 arm_counted Counted s old now u t n g d o xs shape l m at x still is = is

@@ -1,5 +1,5 @@
 -- Settled pairs are dropped, and a pair is claimed.
-use Rattle.std.proofs.Common.{◌≡◌, ℕ, ◌+◌, ◌*◌, min, ◌<◌, ◌≤◌, ◌&&◌, ◌==◌, not, List, Bool, true, false, refl, ap, sym, ◌∙◌, subst, arith, inl, inr}
+use Rattle.std.proofs.Common.{◌≡◌, ℕ, ◌+◌, ◌*◌, min, ◌<◌, ◌≤◌, ◌&&◌, ◌==◌, ◌↔◌, not, List, Bool, true, false, refl, ap, sym, ◌∙◌, subst, arith, inl, inr}
 use Rattle.std.specs.Prelude.{Option, Some, None}
 use Rattle.std.proofs.Math.Nat.{mul-le-mul_right}
 use Rattle.std.proofs.lemmas.Bool.{cases_lt, cases_eq, eq-eqb, ne_eqb}
@@ -8,8 +8,9 @@ use Rattle.ltm_curve.specs.Table.{counts_of}
 use Rattle.ltm_node.specs.Inputs.{Inputs}
 use Rattle.ltm_node.specs.Shape.{width}
 use Rattle.ltm_node.specs.Solvable.{IsSolvable}
+use Rattle.ltm_node.specs.Uncounted.{uncounted}
 use Rattle.ltm_loading.specs.Setting.{Setting, IsSetting}
-use Rattle.ltm_loading.specs.Pairs.{shape_at}
+use Rattle.ltm_loading.specs.Pairs.{shape_at, pair_row}
 use Rattle.ltm_loading.specs.Uncounted.{IsUncountedPair}
 use Rattle.ltm_index.specs.declared.read_index.ReadIndex.{ReadIndex}
 use Rattle.ltm_frontier.specs.declared.frontier.Frontier.{Frontier}
@@ -29,7 +30,7 @@ use Rattle.ltm_working.specs.Ready.{IsReady}
 use Rattle.ltm_working.specs.Placing.{PlacesPair}
 use Rattle.ltm_working.specs.Dropping.{DropsOne, DropsAt, IsWork, NoneActive, SameWorkAs}
 use Rattle.ltm_working.proofs.Desks.{active_is, kept_is, claim_same, same_active, same_claims}
-use Rattle.ltm_working.proofs.Keeping.{kept_whole, whole_kept, kept_uncounted}
+use Rattle.ltm_working.proofs.Keeping.{kept_whole, whole_kept}
 use Rattle.ltm_working.proofs.Standing.{placed_here, other_places}
 use Rattle.ltm_working.proofs.Bools.{and_false}
 
@@ -108,6 +109,7 @@ drop_ready s t u v f ready node slot on step placed drops =
           })
           ready.index;
       claims = λ w y p q some. ready.claims w y p q (λ none. some (ap (λ (z : ℕ → ℕ → Option (List ℕ)). z w y) drops.drops.claimed ∙ none));
+      weights = ready.weights;
     }
 
 -- ---- the positions of an active pair are placed
@@ -136,6 +138,7 @@ placed_ready s t u v x is ready node slot on places =
         | inl at ↦ absurd (some (subst (λ (z : ℕ). (desk_at s t).claimed z y ≡ None) at.0 (subst (λ (z : ℕ). (desk_at s t).claimed u z ≡ None) at.1 free)))
         | inr other ↦ λ i l. other_places s (counts_of t.curves) t.index x u v w y is places node p other i l ∙ ready.claims w y p q some i l
       ];
+      weights = ready.weights;
     }
 
 pub placed_now : (s : Setting) (t : Table) (u v : ℕ) (x : ReadIndex) → PlacesPair s (counts_of t.curves) t.index x u v (s.ins u) → IsPlaced s (desk_at s (record t { index = x })) (place_of x) u v
@@ -222,18 +225,22 @@ most_wide s u is x =
     let outs : s.outs u * d ≤ 4 * d = mul-le-mul_right d (is.small.few_outs u x) in
     omega (arith, arms, outs, is.small.few_destinations, is.small.few_ins u x, is.small.few_outs u x)
 
--- kept inputs that are those that stand ready
-pub settled_here : (s : Setting) (t : Table) (u slot : ℕ) (n : Inputs) → u < s.nodes → slot < s.slots → IsUncountedPair s (counts_of t.curves) u slot n → kept_row t.kept u slot ≡ Some (row_without_counts s u n.row) → IsSettled s (desk_at s t) u slot
+-- a pair is settled exactly where what is kept of it is what it reads but for its counts
+pub settled_row : (s : Setting) (t : Table) (u slot : ℕ) → HasRows s s.slots t.kept → u < s.nodes → slot < s.slots →
+    IsSettled s (desk_at s t) u slot ↔ (kept_row t.kept u slot ≡ Some (row_without_counts s u (pair_row s (counts_of t.curves) u slot)))
 unfolding desk_at
-settled_here s t u slot n x l inputs same = kept_is s t u slot x l ∙ kept_whole s t u slot (same ∙ ap (λ (z : List ℕ). Some z) (kept_uncounted s (counts_of t.curves) u slot n inputs))
+settled_row s t u slot has x l = (
+  λ settled. whole_kept s t u slot has x l (sym (kept_is s t u slot x l) ∙ settled),
+  λ same. kept_is s t u slot x l ∙ kept_whole s t u slot same,
+)
 
-pub work_here : (s : Setting) (t : Table) (u slot : ℕ) (n : Inputs) → HasRows s s.slots t.kept → u < s.nodes → slot < s.slots → is_active t.frontier u slot ≡ true → IsUncountedPair s (counts_of t.curves) u slot n → IsSolvable n →
-    (kept_row t.kept u slot ≡ Some (row_without_counts s u n.row) → ⊥) → IsWork s (desk_at s t) u slot n
+pub work_here : (s : Setting) (t : Table) (u slot : ℕ) (n : Inputs) → u < s.nodes → slot < s.slots → is_active t.frontier u slot ≡ true → IsUncountedPair s (counts_of t.curves) u slot (uncounted n) → IsSolvable (uncounted n) →
+    (IsSettled s (desk_at s t) u slot → ⊥) → IsWork s (desk_at s t) u slot n
 unfolding desk_at
-work_here s t u slot n has x l on inputs solvable differs = record {
+work_here s t u slot n x l on inputs solvable differs = record {
   is_node = x;
   active = active_is s t u slot x l ∙ on;
   inputs = inputs;
   solvable = solvable;
-  changed = λ same. differs (whole_kept s t u slot has x l (sym (kept_is s t u slot x l) ∙ same) ∙ ap (λ (z : List ℕ). Some z) (sym (kept_uncounted s (counts_of t.curves) u slot n inputs)));
+  changed = differs;
 }

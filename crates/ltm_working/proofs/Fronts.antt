@@ -33,6 +33,7 @@ front_ready s t f ready same size = record {
   sound = subst (λ (d : Desk). IsSound s d) (sym (front_desk s t f ready same)) ready.sound;
   index = subst (λ (d : Desk). IndexIsCurrent s d (place_of t.index)) (sym (front_desk s t f ready same)) ready.index;
   claims = subst (λ (d : Desk). ClaimsArePlaced s d (place_of t.index)) (sym (front_desk s t f ready same)) ready.claims;
+  weights = ready.weights;
 }
 
 -- all pairs before the front are idle, or all are

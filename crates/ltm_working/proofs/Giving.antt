@@ -61,6 +61,7 @@ gives_ready s t u v m f ready frees marks gives = record {
     | inl at ↦ absurd (some (subst (λ (z : ℕ). (desk_at s (record t { frontier = f })).claimed z y ≡ None) at.0 (subst (λ (z : ℕ). (desk_at s (record t { frontier = f })).claimed u z ≡ None) at.1 gives.free)))
     | inr other ↦ ready.claims w y p q (λ none. some (gives.others.claimed w y other ∙ none))
   ];
+  weights = ready.weights;
 }
 
 -- ---- whether a pair is held

@@ -1,30 +1,34 @@
 -- What is kept of a pair, without the counts of its node and with them.
-use Rattle.std.proofs.Common.{◌≡◌, ◌≢◌, ℕ, ◌+◌, ◌<◌, ◌≤◌, ◌==◌, ◌||◌, not, List, ◌++◌, length, take, drop, Bool, true, false, refl, ap, sym, ◌∙◌, subst, arith, inl, inr}
-use Rattle.std.specs.Prelude.{Option, Some, None, option_map}
+use Rattle.std.proofs.Common.{◌≡◌, ◌≢◌, ℕ, ◌+◌, ◌<◌, ◌≤◌, ◌==◌, ◌||◌, not, List, ◌++◌, length, take, drop, replicate, Bool, true, false, refl, ap, sym, ◌∙◌, subst, arith, inl, inr}
+use Rattle.std.specs.Prelude.{Option, Some, None, option_map, slice_range}
 use Rattle.std.proofs.Math.Nat.{mul_comm}
 use Rattle.std.proofs.Math.Seq.{take-append_seam, drop-append_seam}
 use Rattle.std.proofs.lemmas.Bool.{cases_eq, cases_Bool}
-use Rattle.std.proofs.lemmas.List.{append_assoc, length-append, length-take-le, take-append-drop}
+use Rattle.std.proofs.lemmas.List.{append_assoc, length-append, length-take, length-take-le, length-drop, length-replicate, take-append-drop}
 use Rattle.ltm_curve.specs.Counts.{Counts}
 use Rattle.ltm_curve.specs.First.{list_below}
 use Rattle.ltm_curve.specs.Table.{counts_of}
 use Rattle.ltm_curve.proofs.Lists.{length-list_below}
-use Rattle.ltm_node.specs.Shape.{width, counts_begin, supplies_begin, counts_width}
+use Rattle.ltm_node.specs.Shape.{width, counts_begin, supplies_begin, weights_begin, counts_width}
 use Rattle.ltm_node.specs.declared.shape.NodeShape.{NodeShape}
 use Rattle.ltm_node.specs.Inputs.{Inputs}
+use Rattle.ltm_node.specs.Uncounted.{with_no_counts, uncounted}
 use Rattle.ltm_node.specs.Outputs.{Outputs, left_after, entered_after, arrived_after}
 use Rattle.ltm_loading.specs.Setting.{Setting}
 use Rattle.ltm_loading.specs.Groups.{up_of, arr_of}
 use Rattle.ltm_loading.specs.Flows.{receiving}
 use Rattle.ltm_loading.specs.Pairs.{arms_of, arm_group, arm_capacity, arrived_by, grid, sending, shape_at, pair_row, count_row}
-use Rattle.ltm_loading.specs.NextPair.{IsOf}
-use Rattle.ltm_loading.specs.Uncounted.{IsUncountedPair}
+use Rattle.ltm_loading.specs.NextPair.{IsOf, IsPairInputs}
+use Rattle.ltm_loading.specs.Uncounted.{uncounted_row, IsUncountedPair}
 use Rattle.ltm_loading.specs.ByPlace.{HoldsCounts, CountsByPlace}
 use Rattle.ltm_loading.proofs.Rows.{length-grid}
 use Rattle.ltm_loading.proofs.SameRows.{length-pair_row}
 use Rattle.ltm_loading.proofs.Setters.{counts_set_only_holds, of_group}
 use Rattle.ltm_loading.proofs.Same.{pair_row_same}
 use Rattle.ltm_loading.proofs.OneSetter.{set_by_one_pair_holds}
+use Rattle.ltm_inputs.specs.Parts.{supply_part, capacity_part, weights_part}
+use Rattle.ltm_inputs.proofs.Told.{parts_written, uncounted_from}
+use Rattle.ltm_inputs.proofs.Weighing.{limits_written}
 use Rattle.ltm_pairs.specs.Changes.{some_below}
 use Rattle.ltm_rows.specs.declared.rows.KeptRows.{KeptRows}
 use Rattle.ltm_working.specs.declared.table.Table.{Table}
@@ -92,13 +96,70 @@ without s c u t left entered arrived =
     ∙ around (counts_begin (shape_at s u)) (supplies_begin (shape_at s u)) (sends_of s c u t) (blocks s u left entered arrived) (limits_of s c u t)
     (length-grid (arms_of s u) s.destinations (sending s c u t)) (omega (arith, length-blocks s u left entered arrived))
 
-no_counts : (s : Setting) (c : Counts) (u t : ℕ) → row_without_counts s u (pair_row s c u t) ≡ sends_of s c u t ++ limits_of s c u t
+pub no_counts : (s : Setting) (c : Counts) (u t : ℕ) → row_without_counts s u (pair_row s c u t) ≡ sends_of s c u t ++ limits_of s c u t
 no_counts s c u t = without s c u t (λ i d. c (arm_group s u i) d t) (λ j d. c (up_of (s.out_link u j)) d t) (λ k. arrived_by s c (s.own u) t)
 
--- what is kept of inputs with 0 for each count is what is kept of the row
-pub kept_uncounted : (s : Setting) (c : Counts) (u t : ℕ) (n : Inputs) → IsUncountedPair s c u t n → row_without_counts s u n.row ≡ row_without_counts s u (pair_row s c u t)
+-- the limits of a row
+pub limits_in : (s : Setting) (c : Counts) (u t : ℕ) → slice_range (uncounted_row s c u t) (supplies_begin (shape_at s u)) (weights_begin (shape_at s u)) ≡ supply_part s c u t ++ capacity_part s u
+limits_in s c u t =
+    let none : List ℕ = blocks s u (λ i d. 0) (λ j d. 0) (λ k. 0) in
+    let shape : NodeShape = shape_at s u in
+    ap (λ (z : List ℕ). slice_range z (supplies_begin shape) (weights_begin shape)) (in_row s c u t (λ i d. 0) (λ j d. 0) (λ k. 0))
+    ∙ limits_written shape (sends_of s c u t) none (supply_part s c u t) (capacity_part s u) (weights_part s u t)
+    (length-grid (arms_of s u) s.destinations (sending s c u t)) (length-blocks s u (λ i d. 0) (λ j d. 0) (λ k. 0))
+    (length-list_below (s.outs u) (λ j. receiving s c (s.out_link u j) t)) (length-list_below (arms_of s u) (arm_capacity s u))
+
+-- zeros in place of the counts are nothing to what is kept
+without_zeros : (shape : NodeShape) (row : List ℕ) → counts_begin shape ≤ length row → without_counts shape (with_no_counts shape row) ≡ without_counts shape row
+unfolding with_no_counts
+without_zeros shape row long =
+    around (counts_begin shape) (supplies_begin shape) (take (counts_begin shape) row) (replicate (counts_width shape) 0) (drop (supplies_begin shape) row)
+    (length-take-le (counts_begin shape) row long) (omega (arith, length-replicate {A = ℕ} (counts_width shape) 0))
+
+-- a row that is one of a pair but for the counts is long enough
+pub long_uncounted : (s : Setting) (c : Counts) (u t : ℕ) (row : List ℕ) → with_no_counts (shape_at s u) row ≡ uncounted_row s c u t → counts_begin (shape_at s u) ≤ length row
+unfolding with_no_counts
+long_uncounted s c u t row is =
+    let shape : NodeShape = shape_at s u in
+    let zeros : List ℕ = replicate (counts_width shape) 0 in
+    let rest : List ℕ = drop (supplies_begin shape) row in
+    let none : List ℕ = blocks s u (λ i d. 0) (λ j d. 0) (λ k. 0) in
+    omega (
+      arith,
+      ap length (is ∙ in_row s c u t (λ i d. 0) (λ j d. 0) (λ k. 0)),
+      length-append (take (counts_begin shape) row) (zeros ++ rest),
+      length-append zeros rest,
+      length-take (counts_begin shape) row,
+      length-replicate {A = ℕ} (counts_width shape) 0,
+      length-drop (supplies_begin shape) row,
+      length-append (sends_of s c u t) (none ++ limits_of s c u t),
+      length-append none (limits_of s c u t),
+      length-grid (arms_of s u) s.destinations (sending s c u t),
+      length-blocks s u (λ i d. 0) (λ j d. 0) (λ k. 0),
+    )
+
+-- what is kept of inputs, whatever stands in place of their counts, is what is kept of the row
+pub kept_uncounted : (s : Setting) (c : Counts) (u t : ℕ) (n : Inputs) → IsUncountedPair s c u t (uncounted n) → row_without_counts s u n.row ≡ row_without_counts s u (pair_row s c u t)
 kept_uncounted s c u t n is =
-    ap (row_without_counts s u) is.row ∙ (without s c u t (λ i d. 0) (λ j d. 0) (λ k. 0) ∙ sym (no_counts s c u t))
+    let row : with_no_counts (shape_at s u) n.row ≡ uncounted_row s c u t = subst (λ (z : NodeShape). with_no_counts z n.row ≡ uncounted_row s c u t) is.shape is.row in
+    sym (without_zeros (shape_at s u) n.row (long_uncounted s c u t n.row row))
+    ∙ (ap (row_without_counts s u) row ∙ (without s c u t (λ i d. 0) (λ j d. 0) (λ k. 0) ∙ sym (no_counts s c u t)))
+
+-- and the counts of a pair's inputs are nothing to what stands there where they are not told
+pub pair_uncounted : (s : Setting) (c : Counts) (u t : ℕ) (n : Inputs) → IsPairInputs s c u t n → IsUncountedPair s c u t (uncounted n)
+pair_uncounted s c u t n is =
+    let left : ℕ → ℕ → ℕ = λ i d. c (arm_group s u i) d t in
+    let entered : ℕ → ℕ → ℕ = λ j d. c (up_of (s.out_link u j)) d t in
+    let arrived : ℕ → ℕ = λ k. arrived_by s c (s.own u) t in
+    let counts : List ℕ = blocks s u left entered arrived in
+    record {
+      shape = is.shape;
+      row =
+          ap (λ (z : NodeShape). with_no_counts z n.row) is.shape
+          ∙ (ap (with_no_counts (shape_at s u)) (is.row ∙ in_row s c u t left entered arrived)
+          ∙ uncounted_from s c u t (shape_at s u) (sends_of s c u t ++ (counts ++ limits_of s c u t)) refl
+          (parts_written s c u t (shape_at s u) (sends_of s c u t) counts (limits_of s c u t) refl (length-blocks s u left entered arrived) refl refl));
+    }
 
 -- what is kept of a row gives the row again
 pub fill_uncounted : (s : Setting) (c : Counts) (u t : ℕ) → with_node_counts s c u t (row_without_counts s u (pair_row s c u t)) ≡ pair_row s c u t

@@ -10,6 +10,7 @@ pub mod Counted
 pub mod Parts
 pub mod Reading
 pub mod Keeping
+pub mod Weighing
 pub mod Desks
 pub mod Standing
 pub mod Dropping

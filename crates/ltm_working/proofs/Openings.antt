@@ -1,22 +1,20 @@
 -- A loading is made, and what its pairs read is kept on the way.
-use Rattle.std.proofs.Common.{◌≡◌, ℕ, ◌+◌, ◌*◌, ◌/◌, ◌%◌, ◌<◌, ◌≤◌, List, length, slice_index, take, inl, inr, ap, sym, ◌∙◌, arith}
+use Rattle.std.proofs.Common.{◌≡◌, ℕ, ◌+◌, ◌*◌, ◌<◌, ◌≤◌, List, slice_index, take, ap, sym, ◌∙◌, subst, arith}
 use Rattle.std.specs.Prelude.{Some}
-use Rattle.std.proofs.Math.Nat.{mul-le-mul_left}
-use Rattle.std.proofs.lemmas.Bool.{cases_lt}
-use Rattle.std.proofs.lemmas.List.{get_or-take, length-take-le}
-use Rattle.std.proofs.lemmas.Nat.{div_below, mod_below, mul-add-lt}
+use Rattle.std.proofs.lemmas.List.{get_or-take}
+use Rattle.std.proofs.lemmas.Nat.{mul-add-lt}
 use Rattle.ltm_curve.specs.Counts.{Counts}
 use Rattle.ltm_node.specs.declared.shape.NodeShape.{NodeShape}
-use Rattle.ltm_node.specs.Shape.{sending_place}
+use Rattle.ltm_node.specs.Shape.{counts_begin, sending_place}
 use Rattle.ltm_node.specs.Inputs.{Inputs}
 use Rattle.ltm_node.specs.Laws.{NothingIsSent}
 use Rattle.ltm_loading.specs.Setting.{Setting, IsSetting}
 use Rattle.ltm_loading.specs.Groups.{up_of, down_of, groups}
-use Rattle.ltm_loading.specs.Pairs.{shape_at}
-use Rattle.ltm_loading.specs.Uncounted.{uncounted_row, IsUncountedPair}
-use Rattle.ltm_loading.proofs.Uncounted.{uncounted_parts}
+use Rattle.ltm_loading.specs.Pairs.{arms_of, sending, shape_at}
+use Rattle.ltm_loading.proofs.Rows.{index-grid}
 use Rattle.ltm_loading.proofs.Same.{AgreeAt, pair_row_same, position_same}
 use Rattle.ltm_inputs.specs.Idle.{IsIdle}
+use Rattle.ltm_inputs.specs.Parts.{sending_part}
 use Rattle.ltm_index.specs.declared.read_index.ReadIndex.{ReadIndex}
 use Rattle.ltm_rows.specs.declared.rows.KeptRows.{KeptRows}
 use Rattle.ltm_working.specs.Desks.{row_without_counts}
@@ -30,6 +28,7 @@ agree_at s a b slot v g stays l x = record { same = λ d k m le. sym (stays g d 
 pair_still : (s : Setting) (a b : Counts) (k : KeptRows) (x : ReadIndex) (slot w v : ℕ) → IsSetting s → w < s.nodes → v ≤ slot → StaysTo s slot a b → KeepsPair s a k x w v → KeepsPair s b k x w v
 pair_still s a b k x slot w v is node l stays pair = record {
   row = pair.row ∙ ap (λ (z : List ℕ). Some (row_without_counts s w z)) (sym (pair_row_same s b a w v is (record { same = λ g d j y m le. stays g d j y m (omega arith) }) node));
+  weighed = pair.weighed;
   placed = λ i p.
       let link : s.in_link w i < s.links = is.network.in_link_is_link w i node p in
       pair.placed i p
@@ -41,35 +40,22 @@ pub keeps_still : (s : Setting) (a b : Counts) (k : KeptRows) (x : ReadIndex) (s
 keeps_still s a b k x slot nodes is few stays keeps = record {
   rows = keeps.rows;
   lists = keeps.lists;
+  weights = keeps.weights;
   earlier = λ w v p q. pair_still s a b k x slot w v is p (omega arith) stays (keeps.earlier w v p q);
   here = λ w p. pair_still s a b k x slot w slot is (omega arith) (omega arith) stays (keeps.here w p);
+  rest = keeps.rest;
+  later = keeps.later;
 }
 
 -- a pair is idle where its inputs tell that nothing is sent
-pub idle_inputs : (s : Setting) (c : Counts) (u t : ℕ) (n : Inputs) → IsUncountedPair s c u t n → NothingIsSent n → IsIdle s c u t
-idle_inputs s c u t n reads none i d l m =
-    let same : slice_index n.row (sending_place n.shape i d) ≡ slice_index (uncounted_row s c u t) (sending_place (shape_at s u) i d) =
-    ap (λ (z : NodeShape). slice_index n.row (sending_place z i d)) reads.shape ∙ ap (λ (z : List ℕ). slice_index z (sending_place (shape_at s u) i d)) reads.row in
-    sym ((uncounted_parts s c u t).sending i d l m)
-    ∙ (sym same ∙ none i d (omega (arith, ap (λ (z : NodeShape). z.arms) reads.shape)) (omega (arith, ap (λ (z : NodeShape). z.destinations) reads.shape)))
-
--- the front of a row is what the arms send
-pub sent_none : (n : Inputs) (xs : List ℕ) → xs ≡ n.row → n.shape.arms * n.shape.destinations ≤ length xs →
-    ((k : ℕ) → k < length (take (n.shape.arms * n.shape.destinations) xs) → slice_index (take (n.shape.arms * n.shape.destinations) xs) k ≡ 0) → NothingIsSent n
-sent_none n xs is long zeros arm destination al dl =
-    let sends : ℕ = n.shape.arms * n.shape.destinations in
-    let place : ℕ = arm * n.shape.destinations + destination in
-    let low : place < sends = omega (arith, mul-add-lt arm n.shape.destinations destination n.shape.arms al dl) in
-    ap (λ (z : List ℕ). slice_index z place) (sym is) ∙ (sym (get_or-take sends xs place 0 low) ∙ zeros place (omega (arith, length-take-le sends xs long, low)))
-
-pub none_sent : (n : Inputs) (xs : List ℕ) → xs ≡ n.row → n.shape.arms * n.shape.destinations ≤ length xs → NothingIsSent n →
-    (k : ℕ) → k < length (take (n.shape.arms * n.shape.destinations) xs) → slice_index (take (n.shape.arms * n.shape.destinations) xs) k ≡ 0
-none_sent n xs is long none k l =
-    let w : ℕ = n.shape.destinations in
-    let sends : ℕ = n.shape.arms * n.shape.destinations in
-    let within : k < n.shape.arms * w = omega (arith, l, length-take-le sends xs long) in
-    let some : 0 < w = elim (cases_lt 0 w) [ inl some ↦ some | inr none ↦ absurd (omega (arith, mul-le-mul_left n.shape.arms none)) ] in
-    let at : k / w * w + k % w ≡ k = omega arith in
-    get_or-take sends xs k 0 within
-    ∙ (ap (λ (z : List ℕ). slice_index z k) is
-    ∙ (ap (slice_index n.row) (sym at) ∙ none (k / w) (k % w) (div_below k w n.shape.arms some within) (mod_below k w some)))
+pub idle_inputs : (s : Setting) (c : Counts) (u t : ℕ) (n : Inputs) → n.shape ≡ shape_at s u → take (counts_begin n.shape) n.row ≡ sending_part s c u t → NothingIsSent n → IsIdle s c u t
+idle_inputs s c u t n shape sends none i d l m =
+    let w : ℕ = s.destinations in
+    let place : ℕ = i * w + d in
+    let low : place < arms_of s u * w = omega (arith, mul-add-lt i w d (arms_of s u) l m) in
+    let part : take (arms_of s u * w) n.row ≡ sending_part s c u t = subst (λ (z : NodeShape). take (counts_begin z) n.row ≡ sending_part s c u t) shape sends in
+    let at : slice_index n.row (sending_place n.shape i d) ≡ 0 = none i d (omega (arith, l, ap (λ (z : NodeShape). z.arms) shape)) (omega (arith, m, ap (λ (z : NodeShape). z.destinations) shape)) in
+    sym (index-grid (arms_of s u) w (sending s c u t) i d l m)
+    ∙ (ap (λ (z : List ℕ). slice_index z place) (sym part)
+    ∙ (get_or-take (arms_of s u * w) n.row place 0 low
+    ∙ (ap (λ (z : NodeShape). slice_index n.row (sending_place z i d)) (sym shape) ∙ at)))

@@ -7,7 +7,7 @@ use Rattle.ltm_units.proofs.Sums.{sum_below-same}
 use Rattle.ltm_curve.specs.Counts.{Counts, total}
 use Rattle.ltm_curve.specs.declared.curves.Curves.{Curves}
 use Rattle.ltm_curve.specs.declared.changed.Changed.{Changed}
-use Rattle.ltm_curve.specs.Cells.{HasCells}
+use Rattle.ltm_curve.specs.Cells.{is_changed, HasCells}
 use Rattle.ltm_curve.specs.Table.{counts_of, destinations_of, SetsRow}
 use Rattle.ltm_node.specs.Outputs.{Outputs, left_after, entered_after}
 use Rattle.ltm_loading.specs.Setting.{Setting, IsSetting}
@@ -25,13 +25,24 @@ use Rattle.ltm_working.specs.Ready.{HasPairs, FitsTable}
 use Rattle.ltm_working.specs.Desks.{place_of}
 use Rattle.ltm_rows.specs.declared.rows.KeptRows.{KeptRows}
 use Rattle.ltm_rows.specs.Rows.{ForgetsRow, HasRows}
-use Rattle.ltm_working.specs.Renewed.{SameButCounts, RenewsNode, RenewsPair}
+use Rattle.ltm_working.specs.Renewed.{SameButCounts, RenewsTails, RenewsNode, RenewsPair}
 use Rattle.ltm_working.specs.Waking.{row_differs, out_differs, sink_differs, PutsCells, changes_outs, wakes_later, wakes_listed, wakes_head, wakes_heads, wakes_others, wakes, any_differs, ForgetsIf}
 use Rattle.ltm_working.proofs.Bools.{same_below, or_false}
-use Rattle.ltm_working.proofs.Activating.{act_as, act_both}
+use Rattle.ltm_working.proofs.Activating.{act_none, act_as, act_both}
 use Rattle.ltm_working.proofs.Keeping.{rows_left, forgets_on, forgets_off}
 use Rattle.ltm_working.proofs.Noting.{puts_as}
 use Rattle.ltm_working.proofs.Wakings.{arm_origin}
+
+-- nothing is set of no in-links
+pub tails_none : (s : Setting) (u k : ℕ) (o : Outputs) (t : Table) → FitsTable s t → RenewsTails s u k o 0 t false t
+tails_none s u k o t fits = record {
+  fits = fits;
+  same = refl;
+  value = refl;
+  sets = record { here = λ i d l m. absurd (omega arith); later = λ g d j x y z ne. refl; others = λ g d x y apart. refl };
+  cells = record { shape = record { same_groups = refl; same_slots = refl }; each = λ g b cell. sym (or_false (is_changed t.changed g b)) };
+  wakes = act_none t.frontier;
+}
 
 -- a row whose counts stand there is set
 pub row_stands : (c : Curves) (g k : ℕ) (row counts : List ℕ) → ((d : ℕ) → d < destinations_of c → slice_index row d ≡ counts_of c g d k) → row ≡ counts → SetsRow c c g k counts

@@ -23,6 +23,7 @@ use Rattle.ltm_working.specs.Growing.{TableSeenAs}
 use Rattle.ltm_rows.proofs.KeptPlaces.{rows_lie, stays_kept}
 use Rattle.ltm_working.proofs.Desks.{same_pairs, claim_same}
 use Rattle.ltm_working.proofs.Keeping.{same_kept_of}
+use Rattle.ltm_working.proofs.Weighing.{weighed_same}
 use Rattle.ltm_working.proofs.Standing.{same_place}
 
 -- each part is as before
@@ -81,6 +82,7 @@ parts_ready s a b same is ready =
           (λ u v x l some i m. same_place a.index b.index (s.in_link u i) v
           (same.lists.entries (s.in_link u i) v (omega (arith, is.network.in_link_is_link u i x m, ready.fits.index.links)))
           ∙ ready.claims u v x l some i m);
+      weights = weighed_same s s.slots a.kept b.kept ready.fits.kept refl ready.weights same.kept;
     }
 
 pub parts_seen : (a b : Table) → SameParts a b → TableSeenAs a b

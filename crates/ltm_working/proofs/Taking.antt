@@ -4,6 +4,7 @@ use Rattle.std.specs.Prelude.{Some}
 use Rattle.std.proofs.lemmas.Bool.{cases_lt, cases_eq, cases_Bool, eqb-true}
 use Rattle.ltm_curve.specs.Table.{counts_of}
 use Rattle.ltm_node.specs.Inputs.{Inputs}
+use Rattle.ltm_node.specs.Uncounted.{uncounted}
 use Rattle.ltm_loading.specs.Setting.{Setting}
 use Rattle.ltm_loading.specs.Pairs.{pair_row}
 use Rattle.ltm_loading.specs.Uncounted.{IsUncountedPair}
@@ -57,7 +58,7 @@ pub found_active : (s : Setting) (t : Table) (u v : ℕ) (n : Inputs) → IsFoun
 found_active s t u v n found = sym (active_is s t u v found.work.work.is_node found.work.is_slot) ∙ found.work.work.active
 
 -- its inputs are those of the pair with 0 for each count
-pub found_inputs : (s : Setting) (t : Table) (u v : ℕ) (n : Inputs) → IsFound s t u v n → IsUncountedPair s (counts_of t.curves) u v n
+pub found_inputs : (s : Setting) (t : Table) (u v : ℕ) (n : Inputs) → IsFound s t u v n → IsUncountedPair s (counts_of t.curves) u v (uncounted n)
 unfolding desk_at
 found_inputs s t u v n found = found.work.work.inputs
 
@@ -122,6 +123,7 @@ takes_ready s t u v n f k ready found step writes =
         | inl at ↦ subst (λ (z : ℕ). IsPlaced s (desk_at s t) (place_of t.index) z y) at.0 (subst (λ (z : ℕ). IsPlaced s (desk_at s t) (place_of t.index) u z) at.1 found.placed)
         | inr other ↦ ready.claims w y p q (λ none. some (takes.others.claimed w y other ∙ none))
       ];
+      weights = ready.weights;
     }
 
 -- ---- claims are of one slot

@@ -1,5 +1,5 @@
 -- An accepted batch.
-use Rattle.std.specs.Prelude.{◌≡◌, ℕ, ◌≤◌, List, Bool, false}
+use Rattle.std.specs.Prelude.{◌≡◌, ℕ, ◌<◌, ◌≤◌, ◌&&◌, not, List, Bool, false}
 use Rattle.ltm_units.specs.declared.places.Reach.{Reach}
 use Rattle.ltm_scenario.specs.declared.edit.Edit.{Edit}
 use Rattle.ltm_scenario.specs.Data.{ScenarioData}
@@ -8,6 +8,8 @@ use Rattle.ltm_setting.specs.Setting.{setting_of}
 use Rattle.ltm_repair.specs.Moves.{Accepts}
 use Rattle.ltm_pairs.specs.Reaches.{lies_in_one}
 use Rattle.ltm_pairs.specs.Touched.{is_touched, ReadsSameBut}
+use Rattle.ltm_rows.specs.declared.rows.KeptRows.{KeptRows}
+use Rattle.ltm_rows.specs.Rows.{nodes_kept, slots_kept, weights_of, is_weighed, kept_row, SamePlaces}
 use Rattle.ltm_working.specs.declared.table.Table.{Table}
 use Rattle.ltm_working.specs.Pairs.{of_pairs}
 use Rattle.ltm_working.specs.Desks.{desk_at, changed_at}
@@ -34,6 +36,14 @@ pub record TakesIn (before after : ScenarioData) (edits : List Edit) (old new : 
 -- the pairs of reaches
 abbrev pub in_reaches : List Reach → ℕ → ℕ → Bool
 in_reaches reaches u t = lies_in_one reaches u t
+
+-- the weights of these pairs are weighed no more; every row stays
+pub record UnweighsAll (old new : KeptRows) (which : ℕ → ℕ → Bool) : Type 0 where
+  pub places : SamePlaces old new
+  pub slots : slots_kept new ≡ slots_kept old
+  pub rows : (w v : ℕ) → kept_row new w v ≡ kept_row old w v
+  pub weights : (w v : ℕ) → weights_of new w v ≡ weights_of old w v
+  pub weighed : (w v : ℕ) → w < nodes_kept old → v < slots_kept old → is_weighed new w v ≡ (is_weighed old w v && not (which w v))
 
 -- a table has the sizes of a scenario but for the horizon, which is no longer, and room for its own
 pub record FitsUnder (after : ScenarioData) (t : Table) : Type 0 where

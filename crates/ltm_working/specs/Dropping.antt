@@ -2,6 +2,7 @@
 use Rattle.std.specs.Prelude.{◌≡◌, ◌≢◌, ℕ, ◌<◌, Some, Bool, IsTrue, IsFalse, true, false}
 use Rattle.ltm_node.specs.Inputs.{Inputs}
 use Rattle.ltm_node.specs.Solvable.{IsSolvable}
+use Rattle.ltm_node.specs.Uncounted.{uncounted}
 use Rattle.ltm_loading.specs.Setting.{Setting}
 use Rattle.ltm_loading.specs.Pairs.{pair_row}
 use Rattle.ltm_loading.specs.Uncounted.{IsUncountedPair}
@@ -32,8 +33,8 @@ pub record DropsAt (s : Setting) (old : Desk) (slot : ℕ) (new : Desk) : Type 0
 pub record IsWork (s : Setting) (d : Desk) (u t : ℕ) (n : Inputs) : Type 0 where
   pub is_node : u < s.nodes
   pub active : d.active u t ≡ true
-  pub inputs : IsUncountedPair s d.counts u t n
-  pub solvable : IsSolvable n
+  pub inputs : IsUncountedPair s d.counts u t (uncounted n)
+  pub solvable : IsSolvable (uncounted n)
   pub changed : d.kept u t ≢ Some (pair_row s d.counts u t)
 
 -- it stands in the index with its positions

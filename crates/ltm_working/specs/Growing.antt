@@ -6,7 +6,7 @@ use Rattle.ltm_loading.specs.Setting.{Setting, IsSetting}
 use Rattle.ltm_frontier.specs.Frontier.{slots_in, slot_room, SamePairs}
 use Rattle.ltm_index.specs.Lists.{slots_listed, index_room, SameLists}
 use Rattle.ltm_working.specs.declared.table.Table.{Table}
-use Rattle.ltm_rows.specs.Rows.{nodes_kept, slots_kept, row_room, has_row, SameRows}
+use Rattle.ltm_rows.specs.Rows.{nodes_kept, slots_kept, row_room, has_row, is_weighed, SameRows}
 use Rattle.ltm_working.specs.Desks.{desk_at, changed_at}
 use Rattle.ltm_working.specs.Ready.{FitsTable, IsReady}
 
@@ -42,6 +42,7 @@ pub record Lengthens (old new : Table) (slots : ℕ) : Type 0 where
   pub kept : SameRows old.kept new.kept
   pub kept_slots : slots_kept new.kept ≡ slots
   pub none_kept : (u t : ℕ) → u < nodes_kept old.kept → slots_kept old.kept ≤ t → has_row new.kept u t ≡ false
+  pub none_weighed : (u t : ℕ) → u < nodes_kept old.kept → slots_kept old.kept ≤ t → is_weighed new.kept u t ≡ false
   pub claims : new.claims ≡ old.claims
   pub pairs : SamePairs old.frontier new.frontier
   pub pair_slots : slots_in new.frontier ≡ slots

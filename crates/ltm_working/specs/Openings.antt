@@ -5,6 +5,7 @@ use Rattle.ltm_curve.specs.Table.{counts_of}
 use Rattle.ltm_loading.specs.Setting.{Setting}
 use Rattle.ltm_loading.specs.Groups.{groups}
 use Rattle.ltm_flows.specs.Working.{IsWorking, IsWorkingAt, HasRoom}
+use Rattle.ltm_rows.specs.Begins.{TellsBegins}
 use Rattle.ltm_working.specs.declared.opening.Opening.{Opening}
 use Rattle.ltm_working.specs.Placing.{KeepsSlots}
 
@@ -16,6 +17,7 @@ StaysTo s k old new = (g d j : ℕ) → g < groups s → d < s.destinations → 
 pub record IsOpenTo (s : Setting) (o : Opening) (slot : ℕ) : Type 0 where
   pub working : IsWorking s o.curves slot
   pub keeps : KeepsSlots s (counts_of o.curves) o.kept o.index slot 0
+  pub begins : TellsBegins s o.begins
   pub inputs : HasRoom s o.inputs.room
   pub outputs : HasRoom s o.outputs.room
 
@@ -23,5 +25,6 @@ pub record IsOpenTo (s : Setting) (o : Opening) (slot : ℕ) : Type 0 where
 pub record IsOpenAt (s : Setting) (o : Opening) (slot nodes : ℕ) : Type 0 where
   pub working : IsWorkingAt s o.curves slot nodes
   pub keeps : KeepsSlots s (counts_of o.curves) o.kept o.index slot nodes
+  pub begins : TellsBegins s o.begins
   pub inputs : HasRoom s o.inputs.room
   pub outputs : HasRoom s o.outputs.room

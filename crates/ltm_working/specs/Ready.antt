@@ -1,10 +1,11 @@
 -- What holds of a table at any time.
-use Rattle.std.specs.Prelude.{◌≡◌, ◌≢◌, ℕ, ◌<◌, None, false}
+use Rattle.std.specs.Prelude.{◌≡◌, ◌≢◌, ℕ, ◌<◌, None, false, true}
 use Rattle.ltm_curve.specs.Cells.{HasCells}
 use Rattle.ltm_loading.specs.Setting.{Setting}
 use Rattle.ltm_loading.specs.Groups.{groups}
 use Rattle.ltm_loading.specs.Loading.{IsLoading}
 use Rattle.ltm_loading.specs.Shaped.{IsShaped}
+use Rattle.ltm_inputs.specs.Parts.{weights_part}
 use Rattle.ltm_frontier.specs.declared.frontier.Frontier.{Frontier}
 use Rattle.ltm_frontier.specs.Frontier.{nodes_in, slots_in}
 use Rattle.ltm_index.specs.declared.read_index.ReadIndex.{ReadIndex}
@@ -13,8 +14,9 @@ use Rattle.ltm_repair.specs.Desk.{Desk, IsSettled, IsIdle}
 use Rattle.ltm_repair.specs.Facts.{IsSound}
 use Rattle.ltm_repair.specs.Index.{IsPlaced, IndexIsCurrent}
 use Rattle.ltm_working.specs.declared.table.Table.{Table}
+use Rattle.ltm_rows.specs.declared.rows.KeptRows.{KeptRows}
 use Rattle.ltm_rows.specs.Claims.{HasClaims}
-use Rattle.ltm_rows.specs.Rows.{HasRows}
+use Rattle.ltm_rows.specs.Rows.{HasRows, is_weighed, weights_of}
 use Rattle.ltm_working.specs.Desks.{desk_at, place_of, changed_at}
 
 -- the pairs of the setting
@@ -40,12 +42,18 @@ pub record FitsTable (s : Setting) (t : Table) : Type 0 where
 abbrev pub ClaimsArePlaced : Setting → Desk → (ℕ → ℕ → ℕ) → Type 0
 ClaimsArePlaced s d places = (u t : ℕ) → u < s.nodes → t < s.slots → d.claimed u t ≢ None → IsPlaced s d places u t
 
--- a sound desk, and each pair that is not active stands in the index with its positions
+-- the weights of a pair that is marked as weighed are those of the setting
+abbrev pub WeightsAreCurrent : Setting → KeptRows → Type 0
+WeightsAreCurrent s k = (u t : ℕ) → u < s.nodes → t < s.slots → is_weighed k u t ≡ true → weights_of k u t ≡ weights_part s u t
+
+-- a sound desk, and each pair that is not active stands in the index with its positions; weights that are not read again are
+-- those of the setting
 pub record IsReady (s : Setting) (t : Table) : Type 0 where
   pub fits : FitsTable s t
   pub sound : IsSound s (desk_at s t)
   pub index : IndexIsCurrent s (desk_at s t) (place_of t.index)
   pub claims : ClaimsArePlaced s (desk_at s t) (place_of t.index)
+  pub weights : WeightsAreCurrent s t.kept
 
 -- the table of a loading at rest: all inputs are kept, no pair is active or claimed, and no cell is changed
 pub record IsOpened (s : Setting) (t : Table) : Type 0 where

@@ -2,9 +2,13 @@
 //!
 //! Pairs are claimed slot by slot, from the front on: what a pair of the front slot reads is final. A pair that is active
 //! and reads what is kept of it is dropped on the way.
-ghost use Rattle.std.specs.Prelude.{◌≡◌, ◌<◌, ◌≤◌, ℕ, MatchOption, true};
+ghost use Rattle.std.specs.Prelude.{◌≡◌, ◌↔◌, ◌<◌, ◌≤◌, ℕ, IsTrue, IsFalse, MatchOption, true};
+ghost use Rattle.ltm_curve.specs.Table.{counts_of};
 ghost use Rattle.ltm_node.specs.Solvable.{IsSolvable};
+ghost use Rattle.ltm_node.specs.Uncounted.{uncounted};
+ghost use Rattle.ltm_loading.specs.Uncounted.{IsUncountedPair};
 ghost use Rattle.ltm_setting.specs.Setting.{setting_of};
+ghost use Rattle.ltm_inputs.specs.Reads.{ReadsFlows};
 ghost use Rattle.ltm_frontier.specs.Frontier.{is_active};
 ghost use Rattle.ltm_repair.specs.Answers.{HasClaimAt, IsNoneClaimed};
 ghost use Rattle.ltm_repair.specs.Desk.{IsSettled};
@@ -18,7 +22,8 @@ ghost use Rattle.ltm_units.specs.Bounds.{widest_row};
 use crate::found::Found;
 use crate::places::place_pair;
 use crate::table::Table;
-use ltm_inputs::{count_in, uncounted_of};
+use ltm_inputs::{count_in, flows_of, weigh, weigh_as};
+use ltm_loading::uncounted_in_range;
 use ltm_node::NodeInputs;
 use ltm_rows::parts_of;
 use ltm_scenario::Scenario;
@@ -26,11 +31,38 @@ use ltm_setting::{is_setting, node_count, slot_count};
 use ltm_units::{NodeId, Pair};
 
 impl Table {
-    ghost use Rattle.ltm_working.specs.Desks.{place_of};
+    ghost use Rattle.ltm_working.specs.Desks.{curves_of, place_of};
     ghost use Rattle.ltm_working.specs.Dropping.{IsReadyAt, IsReread, DropsOne, DropsAt, IsPlacedWork, NoneActive, SameWorkAs};
 
+    /// Whether a pair is settled, where what it reads of its links stands in the inputs; if it is not, its weights stand there
+    /// then, too. Those that are kept are not read again where they are known to be the scenario's.
+    #[inline]
+    fn is_settled(&self, scenario: &Scenario, pair: Pair, inputs: &mut NodeInputs) -> bool
+        requires ready { IsReadyFor scenario.now self.now }
+        requires node { IsNode scenario.now pair.node.0 }
+        requires slot { IsSlot scenario.now pair.slot }
+        requires flows { ReadsFlows (setting_of scenario.now) (counts_of (curves_of self.now))
+            pair.node.0 pair.slot inputs.old }
+        ensures settled { IsTrue result ↔ IsSettled (setting_of scenario.now)
+            (desk_for scenario.now self.now) pair.node.0 pair.slot }
+        ensures inputs { IsFalse result → IsUncountedPair (setting_of scenario.now)
+            (counts_of (curves_of self.now)) pair.node.0 pair.slot (uncounted inputs.new) }
+        ensures room { inputs.new.room ≡ inputs.old.room }
+    {
+        let (node, slot) = (pair.node.0 as usize, pair.slot as usize);
+        if !self.kept.is_weighed(node, slot) {
+            weigh(scenario, pair, inputs);
+            return self.kept.keeps(node, slot, parts_of(inputs));
+        }
+        if self.kept.keeps_amounts(node, slot, parts_of(inputs)) {
+            return true;
+        }
+        weigh_as(self.kept.weights(node, slot), inputs);
+        false
+    }
+
     /// Reads the inputs of an active pair at the front but for its counts, and places its positions; whether the inputs are
-    /// the kept ones.
+    /// the kept ones. If they are, the weights among them are not told.
     fn reread(&mut self, scenario: &Scenario, pair: Pair, inputs: &mut NodeInputs) -> bool
         requires ready { IsReadyAt (setting_of scenario.now) self.old pair.slot }
         requires node { IsNode scenario.now pair.node.0 }
@@ -46,11 +78,12 @@ impl Table {
         ensures room { inputs.new.room ≡ inputs.old.room }
     {
         is_setting(scenario);
+        uncounted_in_range();
         let mut positions = [0u32; 4];
-        uncounted_of(scenario, &self.curves, pair, inputs, &mut positions);
+        flows_of(scenario, &self.curves, pair, inputs, &mut positions);
+        let settled = self.is_settled(scenario, pair, inputs);
         place_pair(scenario, &self.curves, pair, &positions, &mut self.index);
-        self.kept
-            .keeps(pair.node.0 as usize, pair.slot as usize, parts_of(inputs))
+        settled
     }
 
     /// Drops an active pair that is settled and placed.

@@ -9,7 +9,7 @@ ghost use Rattle.ltm_working.specs.Scenarios.{IsReadyFor, changed_for, desk_for}
 use crate::renewal::Renewal;
 use crate::step_form::StepForm;
 use crate::table::Table;
-use ltm_loading::{counts_by_place, in_range, inputs_by_place, outputs_small};
+use ltm_loading::{counts_by_place, inputs_by_place, outputs_small, uncounted_in_range};
 use ltm_node::{Solved, no_arrivals, same_shape};
 use ltm_pairs::readers_wake;
 use ltm_scenario::Scenario;
@@ -39,7 +39,7 @@ impl Table {
         inputs_by_place();
         counts_by_place();
         outputs_small();
-        in_range();
+        uncounted_in_range();
         same_shape();
         no_arrivals();
         readers_wake();

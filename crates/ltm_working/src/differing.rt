@@ -1,7 +1,7 @@
 //! Counts of a pair are set where they differ from those that stand, and the cells that change are noted.
 //!
 //! They are given as they are, or as what has moved since the slot's beginning: then they are those of the slot's beginning
-//! and what has moved, which are nowhere written but where they are set. Of one, two and four numbers, as with so many
+//! and what has moved, which are nowhere written but where they are set. Of one and two numbers, as with so many
 //! destinations, they are made without a loop, and of others they are written as they are compared.
 ghost use Rattle.std.specs.Prelude.{◌≡◌, ◌==◌, ◌&&◌, ◌+◌, ◌<◌, ◌≤◌, ◌^◌, ℕ, length, slice_index, None};
 ghost use Rattle.ltm_curve.specs.Table.{counts_of};
@@ -63,8 +63,8 @@ fn renew_counts(
     renew_row(curves, changed, group, slot, counts)
 }
 
-/// Sets the counts of a group at a slot's end to those of its beginning and what has moved, for three destinations or more, and
-/// for four without a loop; whether some count was another one. Kept out of line.
+/// Sets the counts of a group at a slot's end to those of its beginning and what has moved, for three destinations or more;
+/// whether some count was another one. Kept out of line.
 #[inline(never)]
 fn renew_many(
     curves: &mut Curves,
@@ -78,20 +78,6 @@ fn renew_many(
     ensures { RenewsRow Moved curves.old changed.old group slot moves.now result curves.new
         changed.new }
 {
-    if moves.len() == 4 {
-        let before = curves.row(group, slot);
-        let first = u64::from(before[0]) + moves[0];
-        let second = u64::from(before[1]) + moves[1];
-        let third = u64::from(before[2]) + moves[2];
-        let fourth = u64::from(before[3]) + moves[3];
-        return renew_row(
-            curves,
-            changed,
-            group,
-            slot,
-            &[first, second, third, fourth],
-        );
-    }
     if !curves.move_row(group, slot, moves) {
         return false;
     }

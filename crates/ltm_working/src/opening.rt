@@ -1,14 +1,15 @@
 //! A loading is made for a table, and what its pairs read is kept on the way.
-ghost use Rattle.std.specs.Prelude.{◌≡◌, ◌<◌, ◌+◌, ◌↔◌, ℕ, length, slice_index, IfOk, IsFalse};
+ghost use Rattle.std.specs.Prelude.{◌≡◌, ◌+◌, IfOk, IsFalse, IsTrue};
 ghost use Rattle.ltm_curve.specs.Table.{counts_of};
-ghost use Rattle.ltm_node.specs.Laws.{NothingIsSent};
 ghost use Rattle.ltm_node.specs.Solvable.{IsSolvable};
+ghost use Rattle.ltm_node.specs.Uncounted.{uncounted};
 ghost use Rattle.ltm_loading.specs.Setting.{IsSetting};
 ghost use Rattle.ltm_loading.specs.Uncounted.{IsUncountedPair};
 ghost use Rattle.ltm_setting.specs.Setting.{setting_of};
+ghost use Rattle.ltm_inputs.specs.Idle.{IsIdle};
+ghost use Rattle.ltm_rows.specs.Begins.{TellsBegins};
 ghost use Rattle.ltm_working.specs.Placing.{KeepsSlots};
-ghost use Rattle.ltm_working.specs.Openings.{StaysTo};
-ghost use Rattle.ltm_flows.specs.WorkingOn.{HasNodeRoom, WorksAt};
+ghost use Rattle.ltm_flows.specs.WorkingOn.{HasNodeRoom};
 ghost use Rattle.ltm_sending.specs.Fronts.{FrontAt};
 ghost use Rattle.ltm_setting.specs.Places.{IsNode, IsSlot};
 
@@ -16,93 +17,56 @@ use crate::places::place_pair;
 use crate::table::WIDEST;
 use ltm_curve::Curves;
 use ltm_flows::{begin_slot, fresh, move_pair};
-use ltm_inputs::uncounted_of;
-use ltm_loading::{counts_by_place, inputs_by_place, next_slot};
+use ltm_inputs::{flows_of, is_sent, weigh_as};
+use ltm_loading::{counts_by_place, inputs_by_place, next_slot, uncounted_in_range};
 use ltm_node::{NodeInputs, NodeOutputs, nothing_moves};
 use ltm_pairs::ReadIndex;
-use ltm_rows::{KeptRows, parts_of};
+use ltm_rows::{Begins, KeptRows, parts_of};
 use ltm_scenario::Scenario;
 use ltm_setting::{is_setting, link_count, node_count, slot_count};
 use ltm_units::{NoMemory, NodeId, Pair};
 use std::alloc::Global;
 
-/// Whether any number is above 0.
-fn is_any(numbers: &[u64]) -> bool
-    ensures { IsFalse result ↔ ((k : ℕ) → k < length numbers.now → slice_index numbers.now k ≡ 0) }
-{
-    for number in numbers {
-        if *number != 0 {
-            return true;
-        }
-    }
-    false
-}
-
-/// Whether any arm sends something.
-fn is_any_sent(inputs: &NodeInputs) -> bool
-    ensures { IsFalse result ↔ NothingIsSent inputs.now }
-{
-    let shape = inputs.shape();
-    let sends = shape.arms as usize * shape.destinations as usize;
-    is_any(&inputs.row()[..sends])
-}
-
-/// Reads the inputs of the pair of the next node of a slot but for its counts, keeps them and places its positions.
+/// Keeps what the pair of the next node of a slot reads but for its counts, and places its positions; whether any of its arms
+/// sends something. Where one does its inputs stand ready but for the counts, and else nothing moves.
 fn keep_pair(
     scenario: &Scenario,
     curves: &Curves,
+    begins: &Begins,
     pair: Pair,
     kept: &mut KeptRows,
     index: &mut ReadIndex,
     inputs: &mut NodeInputs,
-)
+) -> bool
     requires setting { IsSetting (setting_of scenario.now) }
     requires node { IsNode scenario.now pair.node.0 }
     requires front { FrontAt scenario.now curves.now pair.slot }
+    requires begins { TellsBegins (setting_of scenario.now) begins.now }
     requires keeps { KeepsSlots (setting_of scenario.now)
         (counts_of curves.now) kept.old index.old pair.slot pair.node.0 }
     requires room { HasNodeRoom scenario.now inputs.old.room }
     ensures keeps { KeepsSlots (setting_of scenario.now)
         (counts_of curves.now) kept.new index.new pair.slot (pair.node.0 + 1) }
-    ensures inputs { IsUncountedPair (setting_of scenario.now)
-        (counts_of curves.now) pair.node.0 pair.slot inputs.new }
-    ensures solvable { IsSolvable inputs.new }
+    ensures inputs { IsTrue result → IsUncountedPair (setting_of scenario.now)
+        (counts_of curves.now) pair.node.0 pair.slot (uncounted inputs.new) }
+    ensures solvable { IsTrue result → IsSolvable (uncounted inputs.new) }
+    ensures idle { IsFalse result
+        → IsIdle (setting_of scenario.now) (counts_of curves.now) pair.node.0 pair.slot }
     ensures room { inputs.new.room ≡ inputs.old.room }
 {
+    uncounted_in_range();
+    let (node, slot) = (pair.node.0 as usize, pair.slot as usize);
     let mut positions = [0u32; 4];
-    uncounted_of(scenario, curves, pair, inputs, &mut positions);
-    kept.put(pair.node.0 as usize, pair.slot as usize, parts_of(inputs));
+    flows_of(scenario, curves, pair, inputs, &mut positions);
     place_pair(scenario, curves, pair, &positions, index);
-}
-
-/// The step of a node in a slot, from its inputs but for the counts. Where its arms send nothing, its counts stay as they
-/// were carried on.
-fn load_pair(
-    scenario: &Scenario,
-    curves: &mut Curves,
-    pair: Pair,
-    inputs: &NodeInputs,
-    outputs: &mut NodeOutputs,
-)
-    requires setting { IsSetting (setting_of scenario.now) }
-    requires node { IsNode scenario.now pair.node.0 }
-    requires slot { IsSlot scenario.now pair.slot }
-    requires working { WorksAt scenario.now curves.old pair.slot pair.node.0 }
-    requires inputs { IsUncountedPair (setting_of scenario.now)
-        (counts_of curves.old) pair.node.0 pair.slot inputs.now }
-    requires solvable { IsSolvable inputs.now }
-    requires room { HasNodeRoom scenario.now outputs.old.room }
-    ensures working { WorksAt scenario.now curves.new pair.slot (pair.node.0 + 1) }
-    ensures stays { StaysTo (setting_of scenario.now) pair.slot (counts_of curves.old)
-        (counts_of curves.new) }
-    ensures room { outputs.new.room ≡ outputs.old.room }
-{
-    inputs_by_place();
-    counts_by_place();
-    nothing_moves();
-    if is_any_sent(inputs) {
-        move_pair(scenario, curves, pair, inputs, outputs);
+    kept.weigh(scenario, begins, pair);
+    if !is_sent(inputs) {
+        kept.put_limits(node, slot, parts_of(inputs));
+        return false;
     }
+    weigh_as(kept.weights(node, slot), inputs);
+    kept.put_again(node, slot, parts_of(inputs));
+    true
 }
 
 /// A loading in the making, with what its pairs have read so far, and room for the step of any node.
@@ -111,6 +75,7 @@ pub(crate) struct Opening {
     pub(crate) curves: Curves,
     pub(crate) kept: KeptRows,
     pub(crate) index: ReadIndex,
+    begins: Begins,
     inputs: NodeInputs,
     outputs: NodeOutputs,
 }
@@ -127,18 +92,21 @@ impl Opening {
         let curves = fresh(alloc, scenario)?;
         let kept = KeptRows::create(alloc, scenario, slots as usize)?;
         let index = ReadIndex::create(alloc, link_count(scenario), slots)?;
+        let begins = Begins::of(alloc, scenario)?;
         let inputs = NodeInputs::create(alloc, WIDEST)?;
         let outputs = NodeOutputs::create(alloc, WIDEST)?;
         Ok(Opening {
             curves,
             kept,
             index,
+            begins,
             inputs,
             outputs,
         })
     }
 
-    /// The next pair reads, which is kept, and is loaded.
+    /// What the next pair reads is kept, and what moves is counted. Where its arms send nothing, its counts stay as they were
+    /// carried on.
     fn open_pair(&mut self, scenario: &Scenario, pair: Pair)
         requires setting { IsSetting (setting_of scenario.now) }
         requires node { IsNode scenario.now pair.node.0 }
@@ -146,21 +114,27 @@ impl Opening {
         requires so_far { IsOpenAt (setting_of scenario.now) self.old pair.slot pair.node.0 }
         ensures { IsOpenAt (setting_of scenario.now) self.new pair.slot (pair.node.0 + 1) }
     {
-        keep_pair(
+        inputs_by_place();
+        counts_by_place();
+        nothing_moves();
+        let sent = keep_pair(
             scenario,
             &self.curves,
+            &self.begins,
             pair,
             &mut self.kept,
             &mut self.index,
             &mut self.inputs,
         );
-        load_pair(
-            scenario,
-            &mut self.curves,
-            pair,
-            &self.inputs,
-            &mut self.outputs,
-        );
+        if sent {
+            move_pair(
+                scenario,
+                &mut self.curves,
+                pair,
+                &self.inputs,
+                &mut self.outputs,
+            );
+        }
     }
 
     /// All pairs of the next slot.

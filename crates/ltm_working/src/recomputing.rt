@@ -14,7 +14,7 @@ use crate::renewal::Renewal;
 use crate::step_form::StepForm;
 use crate::table::Table;
 use ltm_loading::{counts_by_place, outputs_small, step_by_moves};
-use ltm_node::{NodeInputs, NodeOutputs, no_arrivals, same_shape, write_step};
+use ltm_node::{NodeInputs, NodeOutputs, no_arrivals, same_shape, write_moves};
 use ltm_pairs::readers_wake;
 use ltm_scenario::Scenario;
 use ltm_setting::{is_setting, slot_count};
@@ -56,7 +56,7 @@ impl Table {
         readers_wake();
         let _slots = slot_count(scenario);
         self.frontier.claim_mark(pair);
-        write_step(inputs, moves);
+        write_moves(inputs, moves);
         let renewal = Renewal {
             scenario,
             pair,

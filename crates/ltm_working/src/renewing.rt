@@ -4,13 +4,31 @@
 //! given as it is or as what has moved in the slot (`StepForm`). Where a row differs it is written, its cell is noted, and the
 //! tail or the head of the link wakes in the slots that read it. Where any row differs the node's own next slot wakes, and
 //! what was kept of it is forgotten: its counts are not those of its slot's beginning any more.
-ghost use Rattle.std.specs.Prelude.{◌≡◌, ◌+◌, ◌<◌, true};
+ghost use Rattle.std.specs.Prelude.{◌≡◌, ◌+◌, ◌<◌, drop, true};
+ghost use Rattle.ltm_curve.specs.Table.{counts_of};
+ghost use Rattle.ltm_node.specs.Shape.{weights_begin};
 ghost use Rattle.ltm_node.specs.Solvable.{IsSolvable};
+ghost use Rattle.ltm_node.specs.Uncounted.{uncounted};
+ghost use Rattle.ltm_loading.specs.Uncounted.{IsUncountedPair};
 ghost use Rattle.ltm_setting.specs.Setting.{setting_of};
 ghost use Rattle.ltm_frontier.specs.Frontier.{is_claimed, is_pair, Activates};
-ghost use Rattle.ltm_rows.specs.Rows.{ForgetsRow, HasRows};
-ghost use Rattle.ltm_setting.specs.Places.{IsNode, IsSlot, node_shape};
-ghost use Rattle.ltm_working.specs.Desks.{row_without_counts};
+ghost use Rattle.ltm_rows.specs.declared.layout.Part.TheVariants.{Amounts, Weights};
+ghost use Rattle.ltm_rows.specs.Starts.{part_width};
+ghost use Rattle.ltm_rows.specs.Parts.{without_counts};
+ghost use Rattle.ltm_rows.specs.Rows.{
+  nodes_kept,
+  slots_kept,
+  amounts_width,
+  weights_width,
+  weights_of,
+  is_weighed,
+  ForgetsRow,
+  PutsRow,
+  HasRows,
+};
+ghost use Rattle.ltm_setting.specs.Places.{IsNode, IsSlot};
+ghost use Rattle.ltm_working.specs.Desks.{curves_of, row_without_counts};
+ghost use Rattle.ltm_working.specs.Ready.{WeightsAreCurrent};
 ghost use Rattle.ltm_working.specs.Renewed.{
   renewed_counts,
   FitsRenewal,
@@ -48,6 +66,29 @@ fn wake_next(scenario: &Scenario, frontier: &mut Frontier, kept: &mut KeptRows, 
     }
     frontier.mark(Pair { slot, ..pair });
     kept.forget(pair.node.0 as usize, slot as usize);
+}
+
+/// Keeps the inputs of a pair, in which its counts may not stand: its amounts alone are written where its weights stand.
+#[inline]
+fn keep(kept: &mut KeptRows, pair: Pair, inputs: &NodeInputs)
+    requires node { pair.node.0 < nodes_kept kept.old }
+    requires slot { pair.slot < slots_kept kept.old }
+    requires amounts { part_width Amounts inputs.now.shape ≡ amounts_width kept.old pair.node.0 }
+    requires weights { part_width Weights inputs.now.shape ≡ weights_width kept.old pair.node.0 }
+    requires solvable { IsSolvable (uncounted inputs.now) }
+    requires weighed { is_weighed kept.old pair.node.0 pair.slot ≡ true
+        → weights_of kept.old pair.node.0 pair.slot
+        ≡ drop (weights_begin inputs.now.shape) inputs.now.row }
+    ensures { PutsRow kept.old kept.new pair.node.0 pair.slot
+        (without_counts inputs.now.shape inputs.now.row) }
+{
+    let (node, slot) = (pair.node.0 as usize, pair.slot as usize);
+    let parts = parts_of(inputs);
+    if kept.is_weighed(node, slot) {
+        kept.put_again(node, slot, parts);
+        return;
+    }
+    kept.put(node, slot, parts);
 }
 
 impl Table {
@@ -139,8 +180,11 @@ impl Table {
         requires renewal { FitsRenewal renewal self.old }
         requires claimed { is_claimed self.old.frontier renewal.pair.node.0 renewal.pair.slot
             ≡ true }
-        requires shape { inputs.now.shape ≡ node_shape renewal.scenario.now renewal.pair.node.0 }
-        requires solvable { IsSolvable inputs.now }
+        requires weights { WeightsAreCurrent (setting_of renewal.scenario.now) self.old.kept }
+        requires inputs { IsUncountedPair (setting_of renewal.scenario.now)
+            (counts_of (curves_of self.old)) renewal.pair.node.0 renewal.pair.slot
+            (uncounted inputs.now) }
+        requires solvable { IsSolvable (uncounted inputs.now) }
         ensures { Settles (setting_of renewal.entry.scenario.now) renewal.entry.pair.node.0
             renewal.entry.pair.slot (renewed_counts renewal.entry self.old)
             (row_without_counts (setting_of renewal.entry.scenario.now)
@@ -148,8 +192,7 @@ impl Table {
     {
         let pair = renewal.pair;
         self.renew_pair(renewal);
-        self.kept
-            .put(pair.node.0 as usize, pair.slot as usize, parts_of(inputs));
+        keep(&mut self.kept, pair, inputs);
         self.frontier.release(pair);
     }
 }

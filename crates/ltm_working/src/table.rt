@@ -249,7 +249,7 @@ impl Table {
         let before = self.curves.slots();
         self.lengthen(slot_count(scenario));
         self.frontier.void_all();
-        mark_touched(scenario, &mut self.frontier, edits);
+        mark_touched(scenario, &mut self.frontier, &mut self.kept, edits);
         mark_from(scenario, &mut self.frontier, before);
     }
 }

@@ -19,7 +19,9 @@ returns c =
       working = working_start s c.in_ok-curves.curves c.in_ok-curves.ensures.shape c.in_ok-curves.ensures.empty;
       keeps = keeps_first s (counts_of c.in_ok-curves.curves) c.in_ok-kept.kept c.in_ok-index.index
           (subst (λ (n : ℕ). HasRows s n c.in_ok-kept.kept) c.slot_count-slots.ensures.value c.in_ok-kept.ensures.rows)
-          (record { links = c.in_ok-index.ensures.links ∙ c.link_count.ensures.value; slots = c.in_ok-index.ensures.slots ∙ c.slot_count-slots.ensures.value });
+          (record { links = c.in_ok-index.ensures.links ∙ c.link_count.ensures.value; slots = c.in_ok-index.ensures.slots ∙ c.slot_count-slots.ensures.value })
+          c.in_ok-kept.ensures.none_weighed c.in_ok-kept.ensures.zeros;
+      begins = c.in_ok-begins.ensures.tells;
       inputs = λ u x. omega (arith, most_wide s u c.is_setting.ensures.setting x, wide);
       outputs = λ u x. omega (arith, most_wide s u c.is_setting.ensures.setting x, wide_out);
     }

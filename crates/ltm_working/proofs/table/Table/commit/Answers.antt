@@ -3,10 +3,10 @@ use Rattle.std.specs.Prelude.{Some}
 use Rattle.ltm_curve.specs.Table.{counts_of}
 use Rattle.ltm_node.specs.Outputs.{Outputs}
 use Rattle.ltm_node.specs.Inputs.{Inputs}
-use Rattle.ltm_node.specs.Solvable.{IsSolvable}
+use Rattle.ltm_node.specs.Uncounted.{uncounted}
 use Rattle.ltm_node.specs.Step.{IsNodeStep}
+use Rattle.ltm_loading.specs.Uncounted.{IsUncountedPair}
 use Rattle.ltm_setting.specs.Setting.{setting_of}
-use Rattle.ltm_inputs.proofs.Whole.{solvable_inputs}
 use Rattle.ltm_flows.proofs.Steps.{none_arrived}
 use Rattle.ltm_repair.specs.Facts.{IsClaim}
 use Rattle.ltm_repair.specs.Moves.{Commits}
@@ -15,11 +15,13 @@ use Rattle.ltm_working.specs.declared.table.Table.{Table}
 use Rattle.ltm_working.specs.Desks.{row_without_counts, desk_at, changed_at}
 use Rattle.ltm_working.specs.Ready.{IsReady}
 use Rattle.ltm_working.specs.Committing.{readers, rewritten}
+use Rattle.ltm_working.proofs.Keeping.{pair_uncounted}
 use Rattle.ltm_working.proofs.Desks.{claimed_on}
 use Rattle.ltm_working.proofs.Dropping.{at_front}
 use Rattle.ltm_working.proofs.Committed.{CommitsTable, committed, is_committed}
 use Rattle.ltm_working.proofs.Committing.{commits_desk, commits_ready, commits_cells, claim_inputs}
 use Rattle.ltm_working.proofs.table.Table.commit.Goals as goal
+use Rattle.ltm_working.proofs.table.Table.commit.Goals.{After-inputs}
 
 pub settle-requires-clause-renewal : goal.settle-requires-clause-renewal
 settle-requires-clause-renewal c =
@@ -51,18 +53,27 @@ settle-requires-clause-claimed c =
     let claim : IsClaim s (desk_at s c.args.self.now) c.args.pair.node.0 c.args.pair.slot c.args.solved.now.inputs.row = c.requires.ready.sound.claims c.args.pair.node.0 c.args.pair.slot c.args.solved.now.inputs.row c.requires.claimed in
     claimed_on s c.args.self.now c.args.pair.node.0 c.args.pair.slot claim.is_node claim.is_slot (λ none. let some : (desk_at s c.args.self.now).claimed c.args.pair.node.0 c.args.pair.slot ≡ Some c.args.solved.now.inputs.row = c.requires.claimed in cc)
 
-pub settle-requires-clause-shape : goal.settle-requires-clause-shape
-settle-requires-clause-shape c = ap (λ (n : Inputs). n.shape) c.inputs.ensures.inputs ∙ c.requires.shape
+-- the inputs of the claim are those of its pair, whatever stands in place of their counts
+reads : (c : After-inputs) → IsUncountedPair (setting_of c.args.scenario.now) (counts_of c.args.self.now.curves) c.args.pair.node.0 c.args.pair.slot (uncounted c.inputs.result.now)
+reads c =
+    let s = setting_of c.args.scenario.now in
+    let counts = counts_of c.args.self.now.curves in
+    subst (λ (n : Inputs). IsUncountedPair s counts c.args.pair.node.0 c.args.pair.slot (uncounted n)) (sym c.inputs.ensures.inputs)
+    (pair_uncounted s counts c.args.pair.node.0 c.args.pair.slot c.args.solved.now.inputs
+    (claim_inputs s c.args.self.now c.args.pair.node.0 c.args.pair.slot c.args.solved.now.inputs c.requires.ready c.requires.claimed c.requires.shape))
+
+pub settle-requires-clause-weights : goal.settle-requires-clause-weights
+settle-requires-clause-weights c = c.requires.ready.weights
+
+pub settle-requires-clause-inputs : goal.settle-requires-clause-inputs
+settle-requires-clause-inputs c = reads c
 
 pub settle-requires-clause-solvable : goal.settle-requires-clause-solvable
 settle-requires-clause-solvable c =
     let s = setting_of c.args.scenario.now in
-    let counts = counts_of c.args.self.now.curves in
     let claim : IsClaim s (desk_at s c.args.self.now) c.args.pair.node.0 c.args.pair.slot c.args.solved.now.inputs.row = c.requires.ready.sound.claims c.args.pair.node.0 c.args.pair.slot c.args.solved.now.inputs.row c.requires.claimed in
     let front = at_front s c.args.self.now c.args.pair.slot c.requires.ready claim.is_slot claim.front in
-    subst (λ (n : Inputs). IsSolvable n) (sym c.inputs.ensures.inputs)
-    (solvable_inputs s counts c.args.pair.node.0 c.args.pair.slot c.args.solved.now.inputs (claim_inputs s c.args.self.now c.args.pair.node.0 c.args.pair.slot c.args.solved.now.inputs c.requires.ready c.requires.claimed c.requires.shape)
-    (c.in_range.ensures s counts c.args.pair.slot c.args.pair.node.0 c.is_setting.ensures.setting front.front claim.is_slot claim.is_node))
+    c.uncounted_in_range.ensures s (counts_of c.args.self.now.curves) c.args.pair.slot c.args.pair.node.0 (uncounted c.inputs.result.now) c.is_setting.ensures.setting front.front claim.is_slot claim.is_node (reads c)
 
 all_set : (c : goal.After-settle) → CommitsTable (setting_of c.args.scenario.now) c.args.self.now c.args.pair.node.0 c.args.pair.slot c.args.solved.now.inputs c.outputs-outputs.result.now c.settle.ensures.between c.settle.new.self
 all_set c =

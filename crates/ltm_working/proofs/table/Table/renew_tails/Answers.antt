@@ -14,9 +14,12 @@ use Rattle.ltm_working.specs.declared.table.Table.{Table}
 use Rattle.ltm_working.specs.Ready.{FitsTable}
 use Rattle.ltm_working.specs.Renewed.{renewed_counts, RenewsTails}
 use Rattle.ltm_working.specs.Counted.{counted_row, counts_by_form}
-use Rattle.ltm_working.proofs.Renewals.{pairs_stay, fits_with, same_but_counts, row_unset}
+use Rattle.ltm_working.proofs.Renewals.{tails_none, pairs_stay, fits_with, same_but_counts, row_unset}
 use Rattle.ltm_working.proofs.Counted.{arm_row, begins_still, fits_row}
 use Rattle.ltm_working.proofs.table.Table.renew_tails.Goals as goal
+
+pub loop-place-init : goal.loop-place-init
+loop-place-init c = tails_none (setting_of c.args.renewal.scenario.now) c.args.renewal.pair.node.0 (c.args.renewal.pair.slot + 1) (renewed_counts c.args.renewal c.args.self.now) c.args.self.now c.requires.fits
 
 pub renew_tail-woken-requires-clause-row : goal.renew_tail-woken-requires-clause-row
 renew_tail-woken-requires-clause-row c =

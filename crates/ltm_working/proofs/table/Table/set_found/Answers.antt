@@ -2,6 +2,7 @@ use Rattle.std.proofs.Common.{◌≡◌, ℕ, ◌+◌, List, ap, refl, sym, ◌�
 use Rattle.ltm_curve.specs.Table.{counts_of}
 use Rattle.ltm_node.specs.Shape.{width}
 use Rattle.ltm_node.specs.Outputs.{Outputs}
+use Rattle.ltm_node.specs.Uncounted.{uncounted}
 use Rattle.ltm_loading.specs.Pairs.{pair_row, pair_inputs}
 use Rattle.ltm_loading.specs.Uncounted.{moved_on, outputs_at}
 use Rattle.ltm_setting.specs.Setting.{setting_of}
@@ -27,8 +28,8 @@ claim_mark-requires-clause-active c = found_active (setting_of c.args.scenario.n
 pub claim_mark-requires-clause-one_slot : goal.claim_mark-requires-clause-one_slot
 claim_mark-requires-clause-one_slot c = one_claimed (setting_of c.args.scenario.now) c.args.self.now c.args.pair.node.0 c.args.pair.slot c.args.inputs.now c.requires.ready c.requires.found
 
-pub write_step-requires-clause-room : goal.write_step-requires-clause-room
-write_step-requires-clause-room c =
+pub write_moves-requires-clause-room : goal.write_moves-requires-clause-room
+write_moves-requires-clause-room c =
     omega (
       arith,
       ap width c.requires.found.work.work.inputs.shape,
@@ -49,20 +50,26 @@ settle-requires-clause-renewal c =
           (record { nodes = c.claim_mark.ensures.size.nodes ∙ c.requires.ready.fits.frontier.nodes; slots = c.claim_mark.ensures.size.slots ∙ c.requires.ready.fits.frontier.slots }) c.requires.ready.fits.kept;
       node = c.requires.found.work.work.is_node;
       slot = c.requires.found.work.is_slot;
-      outputs = (c.same_shape.ensures _ _ c.write_step.ensures.step).0 ∙ c.requires.found.work.work.inputs.shape;
+      outputs = (c.same_shape.ensures _ _ c.write_moves.ensures.step).0 ∙ c.requires.found.work.work.inputs.shape;
       small = λ i. omega (
         arith,
-        c.outputs_small.ensures s counts t u (pair_inputs s counts u t) (outputs_at s u (moved_on s counts u t c.write_step.new.outputs.row)) c.is_setting.ensures.setting c.requires.found.work.is_slot
-            c.requires.found.work.work.is_node front.front (record { shape = refl; row = refl }) (c.step_by_moves.ensures s counts u t _ _ reads c.write_step.ensures.step) i,
+        c.outputs_small.ensures s counts t u (pair_inputs s counts u t) (outputs_at s u (moved_on s counts u t c.write_moves.new.outputs.row)) c.is_setting.ensures.setting c.requires.found.work.is_slot
+            c.requires.found.work.work.is_node front.front (record { shape = refl; row = refl }) (c.step_by_moves.ensures s counts u t _ _ reads c.write_moves.ensures.step) i,
         c.slot_count-slots.ensures.few,
         c.slot_count-slots.ensures.value,
         c.requires.found.work.is_slot,
       );
-      no_sink = λ own. none_moves_in s counts u t c.args.inputs.now c.write_step.new.outputs c.no_arrivals.ensures reads c.write_step.ensures.step own;
+      no_sink = λ own. none_moves_in s counts u t (uncounted c.args.inputs.now) c.write_moves.new.outputs c.no_arrivals.ensures reads c.write_moves.ensures.step own;
     }
 
 pub settle-requires-clause-claimed : goal.settle-requires-clause-claimed
 settle-requires-clause-claimed c = claimed_found (setting_of c.args.scenario.now) c.args.self.now c.args.pair.node.0 c.args.pair.slot c.args.inputs.now c.claim_mark.new.self c.requires.ready c.requires.found c.claim_mark.ensures
+
+pub settle-requires-clause-weights : goal.settle-requires-clause-weights
+settle-requires-clause-weights c = c.requires.ready.weights
+
+pub settle-requires-clause-inputs : goal.settle-requires-clause-inputs
+settle-requires-clause-inputs c = found_inputs (setting_of c.args.scenario.now) c.args.self.now c.args.pair.node.0 c.args.pair.slot c.args.inputs.now c.requires.found
 
 -- the inputs, with the counts, as they would stand beside the claim
 beside : (c : goal.After-settle) → (r : ClaimRows) × WritesClaim c.args.self.now.claims r c.args.pair.node.0 (pair_row (setting_of c.args.scenario.now) (counts_of c.args.self.now.curves) c.args.pair.node.0 c.args.pair.slot)
@@ -78,7 +85,7 @@ beside c =
 abbrev told : (c : goal.After-settle) → Outputs
 told c =
     let s = setting_of c.args.scenario.now in
-    outputs_at s c.args.pair.node.0 (moved_on s (counts_of c.args.self.now.curves) c.args.pair.node.0 c.args.pair.slot c.write_step.new.outputs.row)
+    outputs_at s c.args.pair.node.0 (moved_on s (counts_of c.args.self.now.curves) c.args.pair.node.0 c.args.pair.slot c.write_moves.new.outputs.row)
 
 all_set : (c : goal.After-settle) → SetsFound (setting_of c.args.scenario.now) c.args.self.now c.args.pair.node.0 c.args.pair.slot c.args.inputs.now (told c) c.claim_mark.new.self (record c.settle.ensures.between { claims = (beside c).0 }) c.settle.new.self (beside c).0
 all_set c =
@@ -98,7 +105,7 @@ all_set c =
         ready = ready;
         claimed = (takes_desk s c.args.self.now u t c.args.inputs.now c.claim_mark.new.self (beside c).0 c.requires.ready c.requires.found c.claim_mark.ensures (beside c).1).holds;
         shape = refl;
-        step = c.step_by_moves.ensures s counts u t _ _ reads c.write_step.ensures.step;
+        step = c.step_by_moves.ensures s counts u t _ _ reads c.write_moves.ensures.step;
         same_shape = refl;
         renews = renews_beside s u (t + 1) (told c) (record c.args.self.now { frontier = c.claim_mark.new.self }) c.settle.ensures.between (beside c).0 ready.fits.claims c.settle.ensures.renews;
         puts = subst (λ (z : List ℕ). PutsRow c.settle.ensures.between.kept c.settle.new.self.kept u t z) (kept_uncounted s counts u t c.args.inputs.now reads) c.settle.ensures.puts;
