@@ -1,6 +1,5 @@
 -- What is kept of a pair is put in its place, and forgotten.
 use Rattle.std.proofs.Common.{◌≡◌, ℕ, ◌+◌, ◌-◌, ◌*◌, ◌<◌, ◌≤◌, List, ◌++◌, true, false, length, arith, inl, inr, refl, ap, sym, ◌∙◌, subst}
-use Rattle.std.specs.List.{CopiedTo, SameBelow, SameFrom}
 use Rattle.std.specs.Prelude.{take, drop, replicate, slice_range, Bool, Some, None, IsTrue, ◌↔◌, ◌&&◌, not, if◌then◌else◌}
 use Rattle.std.proofs.Math.Nat.{mul-le-mul_right}
 use Rattle.std.proofs.Math.Seq.{take-append_seam, drop-append_seam}
@@ -16,7 +15,7 @@ use Rattle.ltm_rows.specs.declared.rows.KeptRows.{KeptRows}
 use Rattle.ltm_rows.specs.Begins.{begins_at, TellsBegins}
 use Rattle.ltm_rows.specs.Layouts.{slot_width, nodes_in, width_in, start_in, row_in, LiesAs}
 use Rattle.ltm_rows.specs.Rows.{nodes_kept, slots_kept, amounts_width, weights_width, amounts_of, weights_of, row_of, has_row, is_weighed, kept_row, in_slots, HasRows, SamePlaces, SameRows, PutsAmounts, PutsWeights, PutsRow, ForgetsRow, Unweighs, Weighs}
-use Rattle.ltm_rows.proofs.RowPlaces.{length_in, written, written_here, written_other, resized_rows, zeros_in, copied_is_written}
+use Rattle.ltm_rows.proofs.RowPlaces.{length_in, written, written_here, written_other, resized_rows, zeros_in}
 
 -- ---- a row is put in its place
 same_places : (k : KeptRows) → SamePlaces k k
@@ -68,15 +67,11 @@ puts_weights old new u t row x l same places slots put amounts there weighed =
     }
 
 -- weights of another slot of the node are copied
-pub puts_copied : (old new : KeptRows) (u t v from to at : ℕ) → u < nodes_kept old → t < slots_kept old → v < slots_kept old → SamePlaces old new → new.slots ≡ old.slots → length new.weights.items ≡ length old.weights.items → from ≡ start_in old.wide u t →
-    to ≡ start_in old.wide u t + weights_width old u → at ≡ start_in old.wide u v → CopiedTo old.weights.items new.weights.items from at (to - from) → SameBelow old.weights.items new.weights.items at →
-    SameFrom old.weights.items new.weights.items (at + (to - from)) → new.amounts ≡ old.amounts → new.there ≡ old.there → new.weighed ≡ old.weighed → PutsWeights old new u v (weights_of old u t)
+pub puts_copied : (old new : KeptRows) (u t v : ℕ) → u < nodes_kept old → t < slots_kept old → v < slots_kept old → SamePlaces old new → new.slots ≡ old.slots →
+    new.weights.items ≡ written old.wide old.weights.items u v (row_in old.wide old.weights.items u t) → new.amounts ≡ old.amounts → new.there ≡ old.there → new.weighed ≡ old.weighed → PutsWeights old new u v (weights_of old u t)
 unfolding weights_of
-puts_copied old new u t v from to at x l m places slots same start end here copied below behind amounts there weighed =
-    let node : u < nodes_in old.wide = wide_node old u x in
-    let xs : List ℕ = old.weights.items in
-    puts_weights old new u v (weights_of old u t) x m (length_in old.wide xs old.room u t node (in_room old t l) old.weights_long) places slots
-    (copied_is_written old.wide xs new.weights.items old.room u t v from to at node (in_room old t l) (in_room old v m) old.weights_long same start end here copied below behind) amounts there weighed
+puts_copied old new u t v x l m places slots put amounts there weighed =
+    puts_weights old new u v (weights_of old u t) x m (length_in old.wide old.weights.items old.room u t (wide_node old u x) (in_room old t l) old.weights_long) places slots put amounts there weighed
 
 amounts_same : (a b : KeptRows) (w v : ℕ) → b.narrow ≡ a.narrow → b.amounts ≡ a.amounts → amounts_of b w v ≡ amounts_of a w v
 unfolding amounts_of

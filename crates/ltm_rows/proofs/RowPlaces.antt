@@ -1,12 +1,12 @@
 -- Where rows lie.
 use Rattle.std.proofs.Common.{◌≡◌, ℕ, ◌+◌, ◌-◌, ◌*◌, ◌<◌, ◌≤◌, ◌⊎◌, List, ◌++◌, length, slice_index, get_or, take, drop, arith, inl, inr, refl, ap, sym, ◌∙◌}
 use Rattle.std.specs.Prelude.{slice_range, replicate}
-use Rattle.std.specs.List.{CopiedTo, SameBelow, SameFrom}
+use Rattle.std.specs.List.{copy_within}
 use Rattle.std.specs.Global.{Vec}
 use Rattle.std.specs.Vec.{with_items}
 use Rattle.std.proofs.Math.Nat.{mul-le-mul_right}
 use Rattle.std.proofs.lemmas.Bool.{cases_lt}
-use Rattle.std.proofs.lemmas.List.{ext_get_or, length-take, length-take-le, length-drop, length-append, get_or-take, get_or-drop, get_or_append_left, get_or-replicate, length-replicate, with_items_is}
+use Rattle.std.proofs.lemmas.List.{ext_get_or, length-take, length-take-le, length-drop, length-append, append_assoc, drop-drop, get_or-take, get_or-drop, get_or_append_left, get_or-replicate, length-replicate, with_items_is}
 use Rattle.ltm_curve.proofs.PutOver.{put_over, length_over, before_over, in_over, after_over}
 use Rattle.ltm_rows.specs.declared.layout.Layout.{Layout}
 use Rattle.ltm_rows.specs.Layouts.{slot_width, nodes_in, width_in, start_in, row_in}
@@ -146,27 +146,21 @@ zeros_in p room u t x l =
     (λ i below. get_or-replicate {A = ℕ} all (from + i) 0 0 (omega (arith, within, below)) ∙ sym (get_or-replicate {A = ℕ} (width_in p u) i 0 0 below))
 
 -- the row of another slot of the node, copied into the place of a pair's
-pub copied_is_written : (p : Layout) (xs ys : List ℕ) (room u t v from to at : ℕ) → u < nodes_in p → t < room → v < room → room * slot_width p ≤ length xs → length ys ≡ length xs → from ≡ start_in p u t → to ≡ start_in p u t + width_in p u →
-    at ≡ start_in p u v → CopiedTo xs ys from at (to - from) → SameBelow xs ys at → SameFrom xs ys (at + (to - from)) → ys ≡ written p xs u v (row_in p xs u t)
+copied_is_written : (p : Layout) (xs : List ℕ) (u t v from to at : ℕ) → from ≡ start_in p u t → to ≡ start_in p u t + width_in p u → at ≡ start_in p u v → copy_within xs from to at ≡ written p xs u v (row_in p xs u t)
 unfolding row_in
-copied_is_written p xs ys room u t v from to at x l m long same start end here copied below behind =
+copied_is_written p xs u t v from to at start end here =
     let a : ℕ = start_in p u v in
     let b : ℕ = start_in p u t in
     let w : ℕ = width_in p u in
-    let row : List ℕ = slice_range xs b (b + w) in
-    let within : a + w ≤ length xs = row_within p room (length xs) u v x m long in
-    let wide : length row ≡ w = length_part xs b w (row_within p room (length xs) u t x l long) in
-    ext_get_or 0 ys (written p xs u v row) (same ∙ sym (length_written p xs room u v row x m long wide)) (λ i low.
-    elim (cases_lt i a) [
-      | inl first ↦ below i 0 (omega (arith, first, here)) ∙ sym (before_over a (a + w) xs row i (omega arith) within first)
-      | inr past ↦ elim (cases_lt i (a + w)) [
-        | inl inside ↦
-            let place : a + (i - a) ≡ i = omega (arith, past) in
-            let source : from + (i - at) ≡ b + (i - a) = omega (arith, start, here) in
-            let short : i - a < w = omega (arith, past, inside) in
-            copied i 0 (omega (arith, past, here)) (omega (arith, inside, start, end, here))
-            ∙ (ap (slice_index xs) source
-            ∙ (sym (part_at xs b w (i - a) short) ∙ (sym (in_over a (a + w) xs row (i - a) (omega arith) within (omega (arith, short, wide))) ∙ ap (slice_index (written p xs u v row)) place)))
-        | inr after ↦ behind i 0 (omega (arith, after, start, end, here)) ∙ sym (after_over a (a + w) xs row i (omega arith) within (omega (arith, wide)) after)
-      ]
-    ])
+    let place : a + (a + w - a) ≡ a + (b + w - b) = omega arith in
+    let behind : drop (a + (b + w - b)) xs ≡ drop (a + w - a) (drop a xs) = sym (drop-drop (a + w - a) a xs ∙ ap (λ (z : ℕ). drop z xs) place) in
+    rw (start, end, here) (append_assoc (take a xs) (slice_range xs b (b + w)) (drop (a + (b + w - b)) xs) ∙ ap (λ (zs : List ℕ). take a xs ++ (slice_range xs b (b + w) ++ zs)) behind)
+
+-- so it is where the numbers of a table that is lent were copied
+pub items_copied : (p : Layout) (v : Vec ℕ) (room u t w from to at : ℕ) (whole ys : List ℕ) → u < nodes_in p → t < room → w < room → room * slot_width p ≤ length v.items → from ≡ start_in p u t → to ≡ start_in p u t + width_in p u →
+    at ≡ start_in p u w → whole ≡ v.items → ys ≡ copy_within whole from to at → (with_items v ys).items ≡ written p v.items u w (row_in p v.items u t)
+items_copied p v room u t w from to at whole ys x l m long start end here all is =
+    let xs : List ℕ = v.items in
+    let row : List ℕ = row_in p xs u t in
+    let same : ys ≡ written p xs u w row = is ∙ (ap (λ (zs : List ℕ). copy_within zs from to at) all ∙ copied_is_written p xs u t w from to at start end here) in
+    with_items_is v ys (ap length same ∙ (length_written p xs room u w row x m long (length_in p xs room u t x l long) ∙ sym v.ok.0)) ∙ same

@@ -1,5 +1,6 @@
 //! The weights of pairs, and of which of them it is known that they are those of the setting as it is.
 ghost use Rattle.std.specs.Prelude.{◌≡◌, ℕ, ◌+◌, ◌-◌, ◌*◌, ◌<◌, ◌≤◌, ◌&&◌, not, false, length, IsTrue};
+ghost use Rattle.std.specs.List.{copy_within};
 ghost use Rattle.ltm_marks.specs.Marks.{width_of, rows_of, is_marked, SameSize};
 ghost use Rattle.ltm_inputs.specs.Parts.{weights_part};
 ghost use Rattle.ltm_setting.specs.Places.{IsNode, IsSlot};
@@ -36,6 +37,18 @@ fn are_as_before(begins: &Begins, pair: Pair) -> bool
         × (begins_at begins.now pair.node.0 pair.slot ≡ false) }
 {
     pair.slot > 0 && !begins.at(pair.node.0 as usize, pair.slot as usize)
+}
+
+/// Copies numbers over as many others behind them: all at once, as none is written that is yet to be read.
+#[inline]
+fn copy_on(numbers: &mut [u32], from: usize, to: usize, at: usize)
+    requires order { from ≤ to }
+    requires behind { to ≤ at }
+    requires within { at + (to - from) ≤ length numbers.old }
+    ensures { numbers.new ≡ copy_within numbers.old from to at }
+{
+    let (front, back) = numbers.split_at_mut(at);
+    back[..to - from].copy_from_slice(&front[from..to]);
 }
 
 impl KeptRows {
@@ -93,7 +106,7 @@ impl KeptRows {
     {
         let (from, to) = self.wide.bounds(node, slot - 1);
         let (at, _) = self.wide.bounds(node, slot);
-        self.weights.copy_within(from..to, at);
+        copy_on(self.weights.as_mut_slice(), from, to, at);
     }
 
     /// Writes the weights that a pair of a scenario has.
