@@ -1,13 +1,50 @@
 //! Numbers in 16 bits beside numbers in 64 bits.
-ghost use Rattle.std.specs.Prelude.{◌≡◌, ◌↔◌, ◌+◌, ◌*◌, ◌/◌, ◌++◌, ◌^◌, ◌<◌, ℕ, length, slice_index, replicate, IsTrue};
+ghost use Rattle.std.specs.Prelude.{◌≡◌, ◌↔◌, ◌+◌, ◌*◌, ◌/◌, ◌++◌, ◌^◌, ◌<◌, ◌≤◌, ℕ, length, slice_index, replicate, IsTrue};
 
-/// Whether two rows are equal. That they differ is told at the first number that does.
+/// Whether four numbers from a place on are equal, by one test for all of them.
+#[inline]
+fn same_four(numbers: &[u16], others: &[u64], place: usize) -> bool
+    requires numbers { place + 4 ≤ length numbers.now }
+    requires others { place + 4 ≤ length others.now }
+    ensures { IsTrue result ↔ (slice_index numbers.now place ≡ slice_index others.now place)
+        × (slice_index numbers.now (place + 1) ≡ slice_index others.now (place + 1))
+        × (slice_index numbers.now (place + 2) ≡ slice_index others.now (place + 2))
+        × (slice_index numbers.now (place + 3) ≡ slice_index others.now (place + 3)) }
+{
+    let first = u64::from(numbers[place]) != others[place];
+    let second = u64::from(numbers[place + 1]) != others[place + 1];
+    let third = u64::from(numbers[place + 2]) != others[place + 2];
+    let fourth = u64::from(numbers[place + 3]) != others[place + 3];
+    !((first | second) | (third | fourth))
+}
+
+/// Whether two rows are equal but for the last numbers, fewer than four. That they differ is told at the first four that do.
+#[inline]
+fn same_fours(numbers: &[u16], others: &[u64]) -> bool
+    requires { length numbers.now ≡ length others.now }
+    ensures { IsTrue result ↔ ((i : ℕ) → i < length numbers.now / 4 * 4
+        → slice_index numbers.now i ≡ slice_index others.now i) }
+{
+    let mut place = 0;
+    while place + 4 <= numbers.len() {
+        if !same_four(numbers, others, place) {
+            return false;
+        }
+        place += 4;
+    }
+    true
+}
+
+/// Whether two rows are equal: four numbers are looked at at a time, and then the last ones.
 #[inline]
 fn same_narrow(numbers: &[u16], others: &[u64]) -> bool
     requires { length numbers.now ≡ length others.now }
     ensures { IsTrue result ↔ numbers.now ≡ others.now }
 {
-    for place in 0..numbers.len() {
+    if !same_fours(numbers, others) {
+        return false;
+    }
+    for place in numbers.len() / 4 * 4..numbers.len() {
         if u64::from(numbers[place]) != others[place] {
             return false;
         }
@@ -15,7 +52,7 @@ fn same_narrow(numbers: &[u16], others: &[u64]) -> bool
     true
 }
 
-/// Whether a row is made of two others, one behind the other. That they differ is told at the first number that does.
+/// Whether a row is made of two others, one behind the other. That they differ is told at the first four numbers that do.
 #[inline]
 pub(crate) fn same_narrow_parts(numbers: &[u16], front: &[u64], back: &[u64]) -> bool
     requires { length numbers.now ≡ length front.now + length back.now }
