@@ -1,9 +1,10 @@
 -- Lists of the first numbers of a function, and their sums.
-use Rattle.std.proofs.Common.{◌≡◌, ℕ, zero, suc, ◌+◌, ◌-◌, ◌<◌, ◌≤◌, List, [], ◌∷◌, length, sum, take, drop, replicate, slice_index, slice_set, get_or-set_same, get_or-set_other, arith, inl, inr, refl, ap, sym, ◌∙◌}
+use Rattle.std.proofs.Common.{◌≡◌, ℕ, zero, suc, ◌+◌, ◌-◌, ◌*◌, ◌/◌, ◌%◌, ◌<◌, ◌≤◌, List, [], ◌∷◌, length, sum, take, drop, replicate, slice_index, slice_set, get_or-set_same, get_or-set_other, arith, inl, inr, refl, ap, sym, ◌∙◌}
 use Rattle.std.proofs.lemmas.Bool.{cases_lt, cases_eq}
 use Rattle.std.proofs.lemmas.List.{ext_get_or, get_or-replicate, get_or_past, get_or-take, get_or-drop, length-replicate, length-set}
 use Rattle.std.proofs.lemmas.List.Sums.{sum_by-cons}
 use Rattle.ltm_units.specs.Sums.{sum_below}
+use Rattle.ltm_units.proofs.Sums.{sum_below_more}
 use Rattle.ltm_units.specs.Nested.{nested_split}
 use Rattle.ltm_units.proofs.Splits.{nested_split-le}
 use Rattle.ltm_curve.specs.First.{list_below}
@@ -72,3 +73,9 @@ pub written_two : (xs : List ℕ) (f : ℕ → ℕ) (n a b : ℕ) → n ≡ 2 �
 written_two xs f n a b two long first other d l =
     let one : (i : ℕ) → i < 1 → slice_index (slice_set xs 0 a) i ≡ f i = λ i m. written xs f 0 a (λ k z. absurd (omega arith)) (omega arith) first i (omega arith) in
     written (slice_set xs 0 a) f 1 b one (omega (arith, length-set xs 0 a)) other d (omega arith)
+
+-- a sum up to whole fours, and two more where there are
+pub two_more : (n : ℕ) (f : ℕ → ℕ) → (n / 2) % 2 ≡ 1 → sum_below (n / 4 * 4) f + (f (n / 4 * 4) + f (n / 4 * 4 + 1)) ≡ sum_below (n / 2 * 2) f
+two_more n f odd =
+    let at : n / 4 * 4 + 1 + 1 ≡ n / 2 * 2 = omega (arith, odd) in
+    omega (arith, sum_below_more f (n / 4 * 4), sum_below_more f (n / 4 * 4 + 1), ap (λ (m : ℕ). sum_below m f) at)

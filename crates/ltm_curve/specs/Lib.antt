@@ -12,3 +12,4 @@ pub mod Copying
 pub mod TotalCurves
 pub mod RowTotals
 pub mod Moving
+pub mod Adding

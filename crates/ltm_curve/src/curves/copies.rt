@@ -16,7 +16,7 @@ fn copy_all<T: Copy>(table: &mut Vec<T>, other: &Vec<T>)
     table.as_mut_slice().copy_from_slice(other.as_slice());
 }
 
-/// Carries a block of numbers of a table of such blocks on to the next block.
+/// Carries a block of numbers of a table of such blocks on to the next block: all at once, as the two lie apart.
 fn carry_block<T: Copy>(table: &mut Vec<T>, width: usize, block: usize)
     requires within { (block + 2) * width ≤ length table.old.items }
     ensures carried { IsCarried table.old.items table.new.items width block }
@@ -25,7 +25,8 @@ fn carry_block<T: Copy>(table: &mut Vec<T>, width: usize, block: usize)
     let _length = table.len();
     let from = block * width;
     let to = from + width;
-    table.as_mut_slice().copy_within(from..to, to);
+    let (front, back) = table.as_mut_slice().split_at_mut(to);
+    back[..width].copy_from_slice(&front[from..to]);
 }
 
 impl Curves {

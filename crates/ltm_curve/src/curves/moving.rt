@@ -75,7 +75,54 @@ fn write_one(table: &mut [u32], from: usize, to: usize, amounts: &[u64], place: 
     differs
 }
 
-/// Writes the last sums, fewer than four; whether some number there was another one, and the sum of their amounts.
+/// Writes the two sums that follow whole fours, where there are two more; whether some number there was another one, and the
+/// sum of their amounts.
+#[inline]
+fn write_two(table: &mut [u32], from: usize, to: usize, amounts: &[u64]) -> (bool, u64)
+    requires apart { from + length amounts.now ≤ to }
+    requires within { to + length amounts.now ≤ length table.old }
+    requires small { (d : ℕ) → d < length amounts.now
+        → slice_index table.old (from + d) + slice_index amounts.now d < 2 ^ 31 }
+    ensures same { IsFalse result.0
+        ↔ StandSums table.old from to amounts.now (length amounts.now / 4 * 4) (length amounts.now / 2 * 2) }
+    ensures whole { sum_below (length amounts.now / 4 * 4) (slice_index amounts.now) + result.1
+        ≡ sum_below (length amounts.now / 2 * 2) (slice_index amounts.now) }
+    ensures sums { WritesSums table.old table.new from to amounts.now
+        (length amounts.now / 4 * 4) (length amounts.now / 2 * 2) }
+{
+    if (amounts.len() / 2) % 2 == 0 {
+        return (false, 0);
+    }
+    let place = amounts.len() / 4 * 4;
+    let first = write_one(table, from, to, amounts, place);
+    let second = write_one(table, from, to, amounts, place + 1);
+    (first | second, amounts[place] + amounts[place + 1])
+}
+
+/// Writes the last sum of an odd count; whether the number there was another one, and its amount.
+#[inline]
+fn write_odd(table: &mut [u32], from: usize, to: usize, amounts: &[u64]) -> (bool, u64)
+    requires apart { from + length amounts.now ≤ to }
+    requires within { to + length amounts.now ≤ length table.old }
+    requires small { (d : ℕ) → d < length amounts.now
+        → slice_index table.old (from + d) + slice_index amounts.now d < 2 ^ 31 }
+    ensures same { IsFalse result.0
+        ↔ StandSums table.old from to amounts.now (length amounts.now / 2 * 2) (length amounts.now) }
+    ensures whole { sum_below (length amounts.now / 2 * 2) (slice_index amounts.now) + result.1
+        ≡ sum_below (length amounts.now) (slice_index amounts.now) }
+    ensures sums { WritesSums table.old table.new from to amounts.now
+        (length amounts.now / 2 * 2) (length amounts.now) }
+{
+    if amounts.len() % 2 == 0 {
+        return (false, 0);
+    }
+    let place = amounts.len() - 1;
+    let differs = write_one(table, from, to, amounts, place);
+    (differs, amounts[place])
+}
+
+/// Writes the last sums, fewer than four, without a loop; whether some number there was another one, and the sum of their
+/// amounts.
 #[inline]
 fn write_last(table: &mut [u32], from: usize, to: usize, amounts: &[u64]) -> (bool, u64)
     requires apart { from + length amounts.now ≤ to }
@@ -90,13 +137,9 @@ fn write_last(table: &mut [u32], from: usize, to: usize, amounts: &[u64]) -> (bo
     ensures sums { WritesSums table.old table.new from to amounts.now
         (length amounts.now / 4 * 4) (length amounts.now) }
 {
-    let mut differs = false;
-    let mut whole = 0u64;
-    for place in amounts.len() / 4 * 4..amounts.len() {
-        whole += amounts[place];
-        differs |= write_one(table, from, to, amounts, place);
-    }
-    (differs, whole)
+    let (two_differ, two_whole) = write_two(table, from, to, amounts);
+    let (odd_differs, odd_whole) = write_odd(table, from, to, amounts);
+    (two_differ | odd_differs, two_whole + odd_whole)
 }
 
 /// Writes numbers that begin at one place of a table, and amounts that are added, over those at another place, four at a time;
