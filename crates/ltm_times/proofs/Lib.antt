@@ -3,8 +3,10 @@ pub mod Moments
 pub mod Shown
 pub mod Alike
 pub mod WasReady
+pub mod InSteps
 pub mod SpentSo
 pub mod Peaks
 pub mod Passes
+pub mod Nobody
 pub mod AtStart
 pub mod DelaysAlike

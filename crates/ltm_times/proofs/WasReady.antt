@@ -1,5 +1,6 @@
 -- No more has left a link than was ready, and no more was ready than has entered.
 use Rattle.std.proofs.Common.{◌≡◌, ℕ, zero, suc, ◌+◌, ◌-◌, ◌*◌, ◌<◌, ◌≤◌, cond, nat_lt, arith, inl, inr, refl, subst, sym, ◌∙◌}
+use Rattle.std.proofs.Math.Nat.{mul-le-mul_right}
 use Rattle.std.proofs.lemmas.Bool.{cases_lt}
 use Rattle.std.proofs.lemmas.Bool.Decides.{nat_tests}
 use Rattle.ltm_units.specs.Sums.{sum_below}
@@ -7,7 +8,7 @@ use Rattle.ltm_units.proofs.Sums.{sum_below-le}
 use Rattle.ltm_curve.specs.Counts.{Counts, interpolated, Rises}
 use Rattle.ltm_curve.specs.First.{first_units}
 use Rattle.ltm_curve.specs.FirstLaws.{FirstSums}
-use Rattle.ltm_curve.proofs.Interpolation.{interpolated_same}
+use Rattle.ltm_curve.proofs.Interpolation.{interpolated_same, interpolated_rises, interpolated_at}
 use Rattle.ltm_curve.proofs.Lasts.{total_rises}
 use Rattle.ltm_loading.specs.Setting.{Setting, IsSetting}
 use Rattle.ltm_loading.specs.Groups.{up_of, down_of, dep_of}
@@ -44,6 +45,16 @@ delayed_same a b h delay k pos same =
       | inr late ↦
           let e : interpolated a h (k * h - delay) ≡ interpolated b h (k * h - delay) = interpolated_same a b h k (k * h - delay) pos (omega arith) same in
           delayed_late a h delay k late ∙ (e ∙ sym (delayed_late b h delay k late))
+    ]
+
+-- where no count falls it is at most the count of its own boundary
+pub delayed_within : (c : ℕ → ℕ) (last h delay k : ℕ) → 0 < h → Rises c last → k ≤ last → delayed c h delay k ≤ c k
+delayed_within c last h delay k pos rise within =
+    elim (cases_lt (k * h) delay) [
+      | inl early ↦ omega (arith, delayed_early c h delay k early)
+      | inr late ↦
+          let before : interpolated c h (k * h - delay) ≤ interpolated c h (k * h) = interpolated_rises c last h (k * h - delay) (k * h) pos rise (omega arith) (mul-le-mul_right h within) in
+          omega (arith, delayed_late c h delay k late, before, interpolated_at c h k pos)
     ]
 
 -- at the end of a slot it is what the sending side reads

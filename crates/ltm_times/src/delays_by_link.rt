@@ -1,47 +1,67 @@
 //! The delays of all links, in one pass over the boundaries.
-ghost use Rattle.std.specs.Prelude.{◌≡◌, ℕ, ◌+◌, ◌-◌, ◌*◌, ◌<◌, ◌≤◌, ◌^◌, length, slice_index_or, IfOk};
+ghost use Rattle.std.specs.Prelude.{◌≡◌, ℕ, ◌+◌, ◌*◌, ◌<◌, ◌≤◌, ◌^◌, length, slice_index_or, IfOk};
 ghost use Rattle.ltm_curve.specs.Counts.{Counts};
 ghost use Rattle.ltm_curve.specs.Totals.{most_total};
 ghost use Rattle.ltm_loading.specs.Setting.{Setting};
-ghost use Rattle.ltm_loading.specs.Totals.{entered_link, left_link};
-ghost use Rattle.ltm_flows.specs.Shown.{links_of, last_of, ShowsCounts};
+ghost use Rattle.ltm_flows.specs.Shown.{step_of, links_of, last_of, free_of, ShowsCounts};
+ghost use Rattle.ltm_times.specs.Behind.{IsBehind, AreFreeTimes};
 ghost use Rattle.ltm_times.specs.Delays.{AreLinkDelays};
 ghost use Rattle.ltm_times.specs.DelaysBy.{IsLinkDelayIn, AreLinkDelaysIn};
+ghost use Rattle.ltm_units.specs.Bounds.{longest_step};
 
+use crate::behind::Behind;
 use crate::delays::{LinkDelay, Peak};
-use crate::queues::{peak_by, queue};
+use crate::queues::{peak_by, ready_by};
 use ltm_flows::Loading;
-use ltm_units::{LinkId, NoMemory, Units};
+use ltm_units::{LinkId, Millis, NoMemory, Units};
 use std::alloc::Global;
 
-/// How many are on a link at a boundary.
-fn on_link(loading: &Loading, link: LinkId, boundary: u32) -> u64
-    requires link { link.0 < links_of loading.now }
-    requires boundary { boundary ≤ last_of loading.now }
-    ensures shown { (s : Setting) (version : ℕ) (c : Counts) → ShowsCounts s version c loading.now
-        → result ≡ entered_link s c link.0 boundary - left_link s c link.0 boundary }
-    ensures small { result ≤ most_total }
+/// So many units for a step, in units times milliseconds. The product fits 64 bits.
+#[inline]
+fn for_a_step(units: u64, step: Millis) -> u128
+    requires units { units ≤ most_total }
+    requires step { step.0 ≤ longest_step }
+    ensures product { result ≡ units * step.0 }
+    ensures small { result ≤ 2 ^ 80 }
 {
-    let left = loading.left_by(link, boundary).0;
-    loading.entered_by(link, boundary).0.saturating_sub(left)
+    u128::from(units * step.0)
 }
 
-/// The delay of a link up to the end of a slot, from that up to its beginning.
+/// Takes the delay of a link from the beginning of a slot to its end; `free` is its free-flow time. Where nobody is on the
+/// link, nobody stands in its queue, and nothing is added.
 #[inline]
-fn later(loading: &Loading, link: LinkId, slot: u32, before: LinkDelay) -> LinkDelay
+fn add_link(loading: &Loading, link: LinkId, slot: u32, free: Behind, delay: &mut LinkDelay)
     requires link { link.0 < links_of loading.now }
     requires slot { slot < last_of loading.now }
-    requires before { IsLinkDelayIn loading.now link.0 slot before }
-    ensures { IsLinkDelayIn loading.now link.0 (slot + 1) result }
+    requires free { IsBehind (step_of loading.now) (free_of loading.now link.0) free }
+    requires before { IsLinkDelayIn loading.now link.0 slot delay.old }
+    ensures { IsLinkDelayIn loading.now link.0 (slot + 1) delay.new }
 {
-    let step = u128::from(loading.step().0);
-    let on = u128::from(on_link(loading, link, slot + 1));
-    let standing = queue(loading, link, slot + 1);
-    LinkDelay {
-        spent: before.spent + on * step,
-        queued: before.queued + u128::from(standing.0) * step,
-        peak: peak_by(before.peak, standing, slot + 1),
+    let step = loading.step();
+    let left = loading.left_by(link, slot + 1).0;
+    let on = loading.entered_by(link, slot + 1).0.saturating_sub(left);
+    if on == 0 {
+        return;
     }
+    let standing = ready_by(loading, link, slot + 1, free).saturating_sub(left);
+    delay.spent += for_a_step(on, step);
+    delay.queued += for_a_step(standing, step);
+    delay.peak = peak_by(delay.peak, Units(standing), slot + 1);
+}
+
+/// The free-flow time of each link, counted in steps.
+fn free_times(alloc: Global, loading: &Loading) -> Result<Vec<Behind>, NoMemory>
+    ensures { IfOk result (λ times. AreFreeTimes loading.now times.items) }
+{
+    let none = Behind {
+        whole: 0,
+        rest: Millis(0),
+    };
+    let mut times = vec![in alloc; none; loading.links() as usize]?;
+    for link in 0..loading.links() {
+        times[link as usize] = Behind::of(loading.free(LinkId(link)), loading.step());
+    }
+    Ok(times)
 }
 
 /// The delays of all links up to the start.
@@ -59,15 +79,16 @@ fn at_start(alloc: Global, loading: &Loading) -> Result<Vec<LinkDelay>, NoMemory
     Ok(vec![in alloc; none; loading.links() as usize]?)
 }
 
-/// Takes the delays of all links from the beginning of a slot to its end.
-fn add_slot(loading: &Loading, slot: u32, delays: &mut [LinkDelay])
+/// Takes the delays of all links, of which these are the free-flow times, from the beginning of a slot to its end.
+fn add_slot(loading: &Loading, slot: u32, free: &[Behind], delays: &mut [LinkDelay])
     requires slot { slot < last_of loading.now }
+    requires free { AreFreeTimes loading.now free.now }
     requires before { AreLinkDelaysIn loading.now slot delays.old }
     ensures { AreLinkDelaysIn loading.now (slot + 1) delays.new }
 {
     for link in 0..loading.links() {
         let at = link as usize;
-        delays[at] = later(loading, LinkId(link), slot, delays[at]);
+        add_link(loading, LinkId(link), slot, free[at], &mut delays[at]);
     }
 }
 
@@ -80,9 +101,10 @@ pub fn link_delays(alloc: Global, loading: &Loading) -> Result<Vec<LinkDelay>, N
     ensures small { IfOk result (λ delays. (link : ℕ) (d : LinkDelay) → link < links_of loading.now
         → (slice_index_or delays.items link d).queued ≤ 2 ^ 112) }
 {
+    let free = free_times(alloc, loading)?;
     let mut delays = at_start(alloc, loading)?;
     for slot in 0..loading.slots() {
-        add_slot(loading, slot, &mut delays);
+        add_slot(loading, slot, &free, &mut delays);
     }
     Ok(delays)
 }

@@ -7,10 +7,12 @@
 //!   free-flow time ago, less what has left. (The vertical queue of Newell 1993.)
 //! - **On what it stands**: `ltm_flows`: all is read off the curves of a finished loading.
 //! - **What a call costs**: a moment is found by halving over boundaries and one division, a queue costs two divisions,
-//!   and a sum over time is one pass over boundaries. Only `link_delays` takes memory, for its list.
+//!   and a sum over time is one pass over boundaries. Only `link_delays` takes memory, for its list and, while it runs, for
+//!   the links' free-flow times in steps. With these it divides only where a curve is read between two totals that differ.
 //! - **When to change it here**: where a time or a queue is read in another way.
 #![tactic(auto)]
 
+mod behind;
 mod boundaries;
 mod delays;
 mod delays_by_link;

@@ -1,15 +1,17 @@
-//! Who could have left a link by a boundary, and who stands in its queue.
-ghost use Rattle.std.specs.Prelude.{◌≡◌, ◌+◌, ◌-◌, ◌*◌, ◌<◌, ◌≤◌};
+//! Curves between boundaries, and so long before one.
+ghost use Rattle.std.specs.Prelude.{◌≡◌, ℕ, ◌+◌, ◌*◌, ◌<◌, ◌≤◌};
 ghost use Rattle.ltm_curve.specs.Counts.{Rises, interpolated};
 ghost use Rattle.ltm_curve.specs.TotalCurves.{total_groups, total_slots, total_at};
 ghost use Rattle.ltm_curve.specs.Totals.{most_total};
+ghost use Rattle.ltm_times.specs.Behind.{IsBehind};
 ghost use Rattle.ltm_times.specs.Queues.{delayed};
-ghost use Rattle.ltm_units.specs.Bounds.{longest_step};
 
+use crate::behind::Behind;
 use ltm_curve::TotalCurves;
 use ltm_units::{Millis, share_of};
 
 /// The total of a group `rest` milliseconds past a boundary, interpolated and rounded down.
+#[inline]
 pub fn past(curves: &TotalCurves, group: u32, boundary: u32, rest: Millis, step: Millis) -> u64
     requires group { group < total_groups curves.now }
     requires rest { rest.0 < step.0 }
@@ -31,26 +33,26 @@ pub fn past(curves: &TotalCurves, group: u32, boundary: u32, rest: Millis, step:
 
 /// The total of a group so long before a boundary, interpolated and rounded down; 0 before the start.
 #[inline]
-pub(crate) fn total_ago(
+pub(crate) fn total_behind(
     curves: &TotalCurves,
     group: u32,
     boundary: u32,
-    delay: Millis,
+    behind: Behind,
     step: Millis,
 ) -> u64
     requires group { group < total_groups curves.now }
     requires boundary { boundary ≤ total_slots curves.now }
     requires rises { Rises (total_at curves.now group) (total_slots curves.now) }
-    requires some_step { 1 ≤ step.0 }
-    requires short_step { step.0 ≤ longest_step }
-    ensures total { result ≡ delayed (total_at curves.now group) step.0 delay.0 boundary }
+    requires rest { behind.rest.0 < step.0 }
+    requires longer { 0 < behind.rest.0 → 0 < behind.whole }
+    ensures total { (time : ℕ) → IsBehind step.0 time behind
+        → result ≡ delayed (total_at curves.now group) step.0 time boundary }
     ensures small { result ≤ most_total }
 {
-    let end = u64::from(boundary) * step.0;
-    if end < delay.0 {
+    let end = u64::from(boundary);
+    if end < behind.whole {
         return 0;
     }
-    let time = end - delay.0;
-    let from = (time / step.0) as u32;
-    past(curves, group, from, Millis(time % step.0), step)
+    let from = (end - behind.whole) as u32;
+    past(curves, group, from, behind.rest, step)
 }

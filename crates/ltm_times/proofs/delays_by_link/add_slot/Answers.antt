@@ -12,8 +12,8 @@ loop-link-preserved c =
     let slot : ℕ = c.args.slot in
     let at : ℕ = c.loop-link.link in
     record {
-      count = length-set c.loop-link.delays at c.later.result ∙ c.loop-link.invariant.count;
-      done = done_more (λ (i : ℕ) (d : LinkDelay). IsLinkDelayIn l i (slot + 1) d) c.loop-link.delays at c.later.result
-          (omega (arith, c.loop-link.invariant.count, c.links-link-end.ensures.value, c.loop-link-test.true)) c.loop-link.invariant.done c.later.ensures;
-      left = left_more (λ (i : ℕ) (d : LinkDelay). IsLinkDelayIn l i slot d) c.loop-link.delays at (links_of l) c.later.result c.loop-link.invariant.left;
+      count = length-set c.loop-link.delays at c.add_link.new.delay ∙ c.loop-link.invariant.count;
+      done = done_more (λ (i : ℕ) (d : LinkDelay). IsLinkDelayIn l i (slot + 1) d) c.loop-link.delays at c.add_link.new.delay
+          (omega (arith, c.loop-link.invariant.count, c.links-link-end.ensures.value, c.loop-link-test.true)) c.loop-link.invariant.done c.add_link.ensures;
+      left = left_more (λ (i : ℕ) (d : LinkDelay). IsLinkDelayIn l i slot d) c.loop-link.delays at (links_of l) c.add_link.new.delay c.loop-link.invariant.left;
     }
