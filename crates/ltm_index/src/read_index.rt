@@ -49,8 +49,9 @@ impl ReadIndex {
         Ok(ReadIndex { slots, cells })
     }
 
-    /// Takes a slot out of the list of the link in which it stands, if any, and puts it first in the list of a boundary.
-    #[inline]
+    /// Takes a slot out of the list of the link in which it stands, if any, and puts it first in the list of a boundary. Always in
+    /// line: an opening places each slot of each link.
+    #[inline(always)]
     pub fn place(&mut self, link: LinkId, slot: u32, boundary: u32)
         requires link { link.0 < links_listed self.old }
         requires slot { slot < slots_listed self.old }

@@ -110,16 +110,25 @@ fn is_four_sent(amounts: &[u64], place: usize) -> bool
     front | back
 }
 
-/// Whether any amount is above 0: four at a time, since most arms send nothing.
+/// Whether any of the eight amounts from a place on is above 0.
+#[inline]
+fn is_eight_sent(amounts: &[u64], place: usize) -> bool
+    requires { place + 8 ≤ length amounts.now }
+    ensures { IsFalse result ↔ ((k : ℕ) → place ≤ k → k < place + 8 → slice_index amounts.now k ≡ 0) }
+{
+    is_four_sent(amounts, place) | is_four_sent(amounts, place + 4)
+}
+
+/// Whether any amount is above 0: eight at a time, since most arms send nothing, and then one by one.
 pub(crate) fn is_any_sent(amounts: &[u64]) -> bool
     ensures { IsFalse result ↔ ((k : ℕ) → k < length amounts.now → slice_index amounts.now k ≡ 0) }
 {
     let mut place = 0;
-    while place + 4 <= amounts.len() {
-        if is_four_sent(amounts, place) {
+    while place + 8 <= amounts.len() {
+        if is_eight_sent(amounts, place) {
             return true;
         }
-        place += 4;
+        place += 8;
     }
     is_one_sent(&amounts[place..])
 }

@@ -63,7 +63,7 @@ pub(crate) fn total_ago<K: Kind>(
     }
 }
 
-/// What of the units of a slot has come in a part of it, rounded down.
+/// What of the units of a slot has come in a part of it, rounded down. In most slots there are none, and nothing is divided.
 #[inline]
 #[tactic(auto, using(crate::proofs::Past::part_fits))]
 fn interpolated_part(units: u64, rest: u32, step: Millis) -> u64
@@ -73,5 +73,8 @@ fn interpolated_part(units: u64, rest: u32, step: Millis) -> u64
     ensures part { result ≡ units * rest / step.0 }
     ensures within { result ≤ units }
 {
+    if units == 0 {
+        return 0;
+    }
     units * u64::from(rest) / step.0
 }

@@ -35,8 +35,8 @@ pub(crate) struct WaitingAt {
     pub(crate) at: u32,
 }
 
-/// The units that may leave a link by the end of a slot.
-#[inline]
+/// The units that may leave a link by the end of a slot. Always in line: it is the greater part of what is read of a link.
+#[inline(always)]
 pub(crate) fn waiting_on<K: Kind>(
     scenario: &Scenario,
     curves: &Curves,

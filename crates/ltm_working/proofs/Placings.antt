@@ -1,10 +1,11 @@
 -- Positions are placed one after another.
-use Rattle.std.proofs.Common.{◌≡◌, ℕ, ◌+◌, ◌<◌, refl, ap, sym, ◌∙◌, arith, inl, inr}
+use Rattle.std.proofs.Common.{◌≡◌, ℕ, ◌+◌, ◌<◌, List, slice_index, refl, ap, sym, ◌∙◌, arith, inl, inr}
 use Rattle.std.specs.Prelude.{Some}
 use Rattle.std.proofs.lemmas.Bool.{cases_lt, cases_eq}
 use Rattle.ltm_curve.specs.Counts.{Counts}
 use Rattle.ltm_loading.specs.Setting.{Setting, IsSetting}
 use Rattle.ltm_loading.specs.Flows.{position}
+use Rattle.ltm_inputs.specs.Parts.{ArePositions}
 use Rattle.ltm_index.specs.declared.read_index.ReadIndex.{ReadIndex}
 use Rattle.ltm_index.specs.Lists.{links_listed as links_in, entry_of, Places}
 use Rattle.ltm_working.specs.Placing.{PlacesAt, PlacesPair}
@@ -33,6 +34,12 @@ places_next s c old mid new u t n l k is x below first next here at =
           next.other_entries m v in_mid (λ same slot. apart n (omega arith) (here ∙ sym same) slot)
           ∙ first.others m v within (λ i low same slot. apart i (omega arith) same slot);
     }
+
+-- the in-link at a place of a node's list is placed at its position
+pub link_placed : (s : Setting) (c : Counts) (old mid new : ReadIndex) (u t n l : ℕ) (positions : List ℕ) → IsSetting s → u < s.nodes → n < s.ins u → ArePositions s c u t positions → PlacesPair s c old mid u t n →
+    s.in_link u n ≡ l → PlacesAt mid new l t (slice_index positions n) → PlacesPair s c old new u t (n + 1)
+link_placed s c old mid new u t n l positions is x below at first link next =
+    places_next s c old mid new u t n l (slice_index positions n) is x below first next link (at.each n below ∙ ap (λ (z : ℕ). position s c z t) link)
 
 -- a slot that is placed stands there, and so does one that is left there
 pub stands_placed : (old new : ReadIndex) (l v k : ℕ) → Places old new l v k → PlacesAt old new l v k

@@ -20,7 +20,7 @@ ghost use Rattle.ltm_working.specs.Scenarios.{IsReadyFor, changed_for, desk_for}
 ghost use Rattle.ltm_units.specs.Bounds.{widest_row};
 
 use crate::found::Found;
-use crate::places::place_pair;
+use crate::places::place_again;
 use crate::table::Table;
 use ltm_inputs::{count_in, flows_of, weigh, weigh_as};
 use ltm_loading::uncounted_in_range;
@@ -82,7 +82,7 @@ impl Table {
         let mut positions = [0u32; 4];
         flows_of(scenario, &self.curves, pair, inputs, &mut positions);
         let settled = self.is_settled(scenario, pair, inputs);
-        place_pair(scenario, &self.curves, pair, &positions, &mut self.index);
+        place_again(scenario, &self.curves, pair, &positions, &mut self.index);
         settled
     }
 

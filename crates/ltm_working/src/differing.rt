@@ -85,8 +85,47 @@ fn renew_many(
     true
 }
 
-/// The same, with one and with two destinations without a loop.
-#[inline]
+/// The same for two destinations, without a loop. Kept out of line.
+#[inline(never)]
+fn renew_two(
+    curves: &mut Curves,
+    changed: &mut Changed,
+    group: u32,
+    slot: u32,
+    moves: &[u64],
+) -> bool
+    requires row { FitsRow Moved curves.old changed.old group slot moves.now }
+    requires two { length moves.now ≡ 2 }
+    ensures { RenewsRow Moved curves.old changed.old group slot moves.now result curves.new
+        changed.new }
+{
+    let before = curves.row(group, slot);
+    let first = u64::from(before[0]) + moves[0];
+    let second = u64::from(before[1]) + moves[1];
+    renew_row(curves, changed, group, slot, &[first, second])
+}
+
+/// The same for one destination. Kept out of line.
+#[inline(never)]
+fn renew_one(
+    curves: &mut Curves,
+    changed: &mut Changed,
+    group: u32,
+    slot: u32,
+    moves: &[u64],
+) -> bool
+    requires row { FitsRow Moved curves.old changed.old group slot moves.now }
+    requires one { length moves.now ≡ 1 }
+    ensures { RenewsRow Moved curves.old changed.old group slot moves.now result curves.new
+        changed.new }
+{
+    let before = curves.row(group, slot);
+    let only = u64::from(before[0]) + moves[0];
+    renew_row(curves, changed, group, slot, &[only])
+}
+
+/// The same for any number of destinations. In line, so that what fits the number is called at once.
+#[inline(always)]
 fn renew_moves(
     curves: &mut Curves,
     changed: &mut Changed,
@@ -98,20 +137,16 @@ fn renew_moves(
     ensures { RenewsRow Moved curves.old changed.old group slot moves.now result curves.new
         changed.new }
 {
-    let before = curves.row(group, slot);
+    if moves.len() > 2 {
+        return renew_many(curves, changed, group, slot, moves);
+    }
     if moves.len() == 2 {
-        let first = u64::from(before[0]) + moves[0];
-        let second = u64::from(before[1]) + moves[1];
-        return renew_row(curves, changed, group, slot, &[first, second]);
+        return renew_two(curves, changed, group, slot, moves);
     }
     if moves.len() == 1 {
-        let only = u64::from(before[0]) + moves[0];
-        return renew_row(curves, changed, group, slot, &[only]);
+        return renew_one(curves, changed, group, slot, moves);
     }
-    if moves.is_empty() {
-        return false;
-    }
-    renew_many(curves, changed, group, slot, moves)
+    false
 }
 
 /// Sets the counts of a group at a slot's end, and no others; whether some count was another one. If so the cell is noted as

@@ -13,7 +13,7 @@ ghost use Rattle.ltm_flows.specs.WorkingOn.{HasNodeRoom};
 ghost use Rattle.ltm_sending.specs.Fronts.{FrontAt};
 ghost use Rattle.ltm_setting.specs.Places.{IsNode, IsSlot};
 
-use crate::places::place_pair;
+use crate::places::place_first;
 use crate::table::WIDEST;
 use ltm_curve::Curves;
 use ltm_flows::{begin_slot, fresh, move_pair};
@@ -58,7 +58,7 @@ fn keep_pair(
     let (node, slot) = (pair.node.0 as usize, pair.slot as usize);
     let mut positions = [0u32; 4];
     flows_of(scenario, curves, pair, inputs, &mut positions);
-    place_pair(scenario, curves, pair, &positions, index);
+    place_first(scenario, curves, pair, &positions, index);
     kept.weigh(scenario, begins, pair);
     if !is_sent(inputs) {
         kept.put_limits(node, slot, parts_of(inputs));

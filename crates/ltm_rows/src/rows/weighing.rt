@@ -39,7 +39,8 @@ fn are_as_before(begins: &Begins, pair: Pair) -> bool
     pair.slot > 0 && !begins.at(pair.node.0 as usize, pair.slot as usize)
 }
 
-/// Copies numbers over as many others behind them: all at once, as none is written that is yet to be read.
+/// Copies numbers over as many others behind them: all at once, as none is written that is yet to be read. A single number, as
+/// where a node has one out-link in a case with one destination, is copied without a call.
 #[inline]
 fn copy_on(numbers: &mut [u32], from: usize, to: usize, at: usize)
     requires order { from ≤ to }
@@ -47,6 +48,10 @@ fn copy_on(numbers: &mut [u32], from: usize, to: usize, at: usize)
     requires within { at + (to - from) ≤ length numbers.old }
     ensures { numbers.new ≡ copy_within numbers.old from to at }
 {
+    if to - from == 1 {
+        numbers[at] = numbers[from];
+        return;
+    }
     let (front, back) = numbers.split_at_mut(at);
     back[..to - from].copy_from_slice(&front[from..to]);
 }

@@ -20,8 +20,8 @@ use Rattle.ltm_working.proofs.opening.keep_pair.Goals as goal
 pub flows_of-requires-clause-places : goal.flows_of-requires-clause-places
 flows_of-requires-clause-places c = omega (arith, c.requires.setting.small.few_ins c.args.pair.node.0 c.requires.node)
 
-pub place_pair-requires-clause-places : goal.place_pair-requires-clause-places
-place_pair-requires-clause-places c = omega (arith, c.flows_of.auto.positions, c.requires.setting.small.few_ins c.args.pair.node.0 c.requires.node)
+pub place_first-requires-clause-places : goal.place_first-requires-clause-places
+place_first-requires-clause-places c = omega (arith, c.flows_of.auto.positions, c.requires.setting.small.few_ins c.args.pair.node.0 c.requires.node)
 
 pub weigh-requires-clause-before : goal.weigh-requires-clause-before
 weigh-requires-clause-before c = λ t at.
@@ -61,9 +61,9 @@ returns-then-not-is_sent-clause-keeps c =
     let parts = c.parts_of.result in
     let amounts = flows_amounts s counts u v c.flows_of.new.into parts.sends.now parts.limits.now c.flows_of.ensures.flows c.parts_of.ensures.sends c.parts_of.ensures.limits in
     let row = whole_row s counts u v (amounts_in parts) (weights_of c.weigh.new.self u v) amounts c.weigh.ensures.here in
-    keeps_next s counts c.args.kept.now c.put_limits.new.self c.args.index.now c.place_pair.new.index v u c.requires.setting c.requires.node c.requires.front.now c.requires.keeps
+    keeps_next s counts c.args.kept.now c.put_limits.new.self c.args.index.now c.place_first.new.index v u c.requires.setting c.requires.node c.requires.front.now c.requires.keeps
     (puts_weighed c.args.kept.now c.weigh.new.self c.put_limits.new.self u v (weights_part s u v) _ c.weigh.ensures (subst (λ (z : List ℕ). PutsRow c.weigh.new.self c.put_limits.new.self u v z) row c.put_limits.ensures))
-    c.place_pair.ensures
+    c.place_first.ensures
 
 pub returns-then-not-is_sent-clause-idle : goal.returns-then-not-is_sent-clause-idle
 returns-then-not-is_sent-clause-idle c = λ no.
@@ -110,9 +110,9 @@ returns-clause-keeps c =
     let read = c.weigh_as.ensures.inputs s counts u v c.flows_of.ensures.flows (c.weights.ensures.row ∙ c.weigh.ensures.here) in
     let amounts = inputs_amounts s counts u v c.weigh_as.new.into parts.sends.now parts.limits.now read c.parts_of-2.ensures.sends c.parts_of-2.ensures.limits in
     let row = whole_row s counts u v (amounts_in parts) (weights_of c.weigh.new.self u v) amounts c.weigh.ensures.here in
-    keeps_next s counts c.args.kept.now c.put_again.new.self c.args.index.now c.place_pair.new.index v u c.requires.setting c.requires.node c.requires.front.now c.requires.keeps
+    keeps_next s counts c.args.kept.now c.put_again.new.self c.args.index.now c.place_first.new.index v u c.requires.setting c.requires.node c.requires.front.now c.requires.keeps
     (puts_weighed c.args.kept.now c.weigh.new.self c.put_again.new.self u v (weights_part s u v) _ c.weigh.ensures (subst (λ (z : List ℕ). PutsRow c.weigh.new.self c.put_again.new.self u v z) row c.put_again.ensures))
-    c.place_pair.ensures
+    c.place_first.ensures
 
 pub returns-clause-inputs : goal.returns-clause-inputs
 returns-clause-inputs c = λ yes.
