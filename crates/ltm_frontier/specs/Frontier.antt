@@ -65,6 +65,13 @@ pub record IsFrontFrom (f : Frontier) (t u : ℕ) : Type 0 where
   pub front : IsFront f t
   pub passed : (w : ℕ) → w < nodes_in f → w < u → is_active f w t ≡ false
 
+-- the first active pair of the front, where no pair is claimed
+pub record IsFirstOfFront (f : Frontier) (t u : ℕ) : Type 0 where
+  pub from : IsFrontFrom f t u
+  pub unclaimed : claims_of f ≡ 0
+  pub is_node : u < nodes_in f
+  pub active : is_active f u t ≡ true
+
 -- the least active node of a slot that is not below one
 pub record IsNextActive (f : Frontier) (t from u : ℕ) : Type 0 where
   pub least : from ≤ u

@@ -150,7 +150,7 @@ unfolding desk_at
 indexed_desk s t x = refl
 
 -- ---- several pairs are dropped
-drops_trans : (s : Setting) (d m e : Desk) → DropsSettled s d m → DropsSettled s m e → DropsSettled s d e
+pub drops_trans : (s : Setting) (d m e : Desk) → DropsSettled s d m → DropsSettled s m e → DropsSettled s d e
 drops_trans s d m e first second = record {
   each = λ u t. elim (second.each u t) [
     | inl same ↦ elim (first.each u t) [

@@ -16,6 +16,7 @@ pub mod Standing
 pub mod Dropping
 pub mod Taking
 pub mod Searches
+pub mod FoundAfter
 pub mod Fronts
 pub mod Counting
 pub mod Giving

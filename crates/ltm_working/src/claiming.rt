@@ -221,10 +221,9 @@ impl Table {
         }
     }
 
-    /// A pair of the front slot whose inputs differ from the kept ones, with its inputs but for the counts, for which there is
-    /// room for the widest row. Settled pairs that it passes are dropped; while claims are out, at their slot alone.
-    #[inline(always)]
-    pub(crate) fn find(&mut self, scenario: &Scenario, inputs: &mut NodeInputs) -> Found
+    /// A pair of the front slot whose inputs differ from the kept ones, wherever it is. Kept out of line.
+    #[inline(never)]
+    fn find_far(&mut self, scenario: &Scenario, inputs: &mut NodeInputs) -> Found
         requires ready { IsReadyFor scenario.now self.old }
         requires room { widest_row ≤ inputs.old.room }
         ensures ready { IsReadyFor scenario.now self.new }
@@ -239,6 +238,31 @@ impl Table {
             return self.find_beside(scenario, front, inputs);
         }
         self.find_first(scenario, front, inputs)
+    }
+
+    /// A pair of the front slot whose inputs differ from the kept ones, with its inputs but for the counts, for which there is
+    /// room for the widest row. Settled pairs that it passes are dropped; while claims are out, at their slot alone. The pair that
+    /// is nearest at the front is looked at first, and others are sought only if it is not to be worked on.
+    #[inline(always)]
+    pub(crate) fn find(&mut self, scenario: &Scenario, inputs: &mut NodeInputs) -> Found
+        requires ready { IsReadyFor scenario.now self.old }
+        requires room { widest_row ≤ inputs.old.room }
+        ensures ready { IsReadyFor scenario.now self.new }
+        ensures finds { Finds (setting_of scenario.now)
+            (desk_for scenario.now self.old) result inputs.new self.new }
+        ensures changed { changed_for scenario.now self.new
+            ≡ changed_for scenario.now self.old }
+        ensures room { inputs.new.room ≡ inputs.old.room }
+    {
+        is_setting(scenario);
+        let Some(pair) = self.frontier.advance_near() else {
+            return self.find_far(scenario, inputs);
+        };
+        if !self.reread(scenario, pair, inputs) {
+            return Found::Work(pair);
+        }
+        self.drop_settled(scenario, pair);
+        self.find_far(scenario, inputs)
     }
 
     /// Claims a pair of the front slot whose inputs differ from the kept ones, and writes its inputs, for which there is

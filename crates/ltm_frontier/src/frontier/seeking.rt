@@ -12,6 +12,7 @@ impl Frontier {
       AllIdle,
       IsFront,
       IsFrontFrom,
+      IsFirstOfFront,
       IsNextActive,
       NoneActiveIn,
       SamePairs,
@@ -82,7 +83,7 @@ impl Frontier {
     /// The first active node of the slot from which the front is sought, where no pair is claimed and that node is near.
     #[inline]
     fn near(&self) -> Option<u32>
-        ensures { IfSome result (IsFrontFrom self.now self.now.low) }
+        ensures { IfSome result (IsFirstOfFront self.now self.now.low) }
     {
         if self.claims.count() > 0 {
             return None;
@@ -98,6 +99,22 @@ impl Frontier {
             Some(node) => return Some(node as u32),
             None => return None,
         }
+    }
+
+    /// The first active pair of the front, where no pair is claimed and that pair is near: it is not sought below it again
+    /// until a pair there is made active. None tells nothing.
+    #[inline]
+    pub fn advance_near(&mut self) -> Option<Pair>
+        ensures first { IfSome result (λ pair. IsFirstOfFront self.old pair.slot pair.node.0) }
+        ensures size { SameSize self.old self.new }
+        ensures pairs { SamePairs self.old self.new }
+    {
+        if let Some(node) = self.near() {
+            self.first = node;
+            let (node, slot) = (NodeId(node), self.low);
+            return Some(Pair { node, slot });
+        }
+        None
     }
 
     /// The front, found wherever it is, below which it is not sought again.

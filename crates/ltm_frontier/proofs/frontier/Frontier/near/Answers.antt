@@ -26,6 +26,11 @@ returns-in-Some c =
       busy = rw next.marked refl;
     } in
     record {
-      front = front;
-      passed = λ w x y. elim (cases_lt w f.first) [ inl below ↦ f.passed w x below low | inr from ↦ next.before w from y ];
+      from = record {
+        front = front;
+        passed = λ w x y. elim (cases_lt w f.first) [ inl below ↦ f.passed w x below low | inr from ↦ next.before w from y ];
+      };
+      unclaimed = omega (arith, c.count.ensures, c.if-count-gt0.false);
+      is_node = next.inside;
+      active = next.marked;
     }
