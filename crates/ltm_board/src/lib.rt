@@ -2,7 +2,7 @@
 //!   at the other, in any thread. A read gives the sheet of the loading after some list of batches; that list begins with
 //!   each list that its viewer read before and with that of each note that it learnt, whatever the order of posts and reads.
 //! - **On what it stands**: `ltm_flows` for loadings and their totals, `ltm_scenario` for batches and their equality, `ltm_core`
-//!   for the words in which a list of accepted batches is told, and `left_right` for two copies of what is shown, under a rule
+//!   for the vocabulary of lists of accepted batches, and `left_right` for two copies of what is shown, under a rule
 //!   of its own.
 //! - **What a call costs**: a post copies its batches twice and makes two sheets, and never a curve; it waits for a read that
 //!   still has the copy shown before. A read copies a sheet, takes no memory and waits for no post. To learn a note is a pass

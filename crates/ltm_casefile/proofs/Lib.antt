@@ -1,4 +1,5 @@
 pub mod Fetching
+pub mod Headers
 pub mod Memory
 pub mod Places
 pub mod Unsplit

@@ -45,7 +45,7 @@ use Rattle.ltm_casefile.specs.Causes.{taken}
 use Rattle.ltm_casefile.specs.Rows.{at_row, rows_from, below_header}
 use Rattle.ltm_casefile.specs.Fields.{has_width, name_in, number_in, amount_in, weights_in}
 use Rattle.ltm_casefile.specs.Setup.{number_if, setup_record, flags_checked, in_range, opened, setup_read, only_row, setup_of}
-use Rattle.ltm_casefile.specs.Columns.{limits_field, cells_field, rows_field, links_field, destinations_field, moves_field, width_of, columns_of, is_setup_header}
+use Rattle.ltm_casefile.specs.Columns.{limits_field, cells_field, rows_field, links_field, destinations_field, moves_field, carry_field, width_of, columns_of, is_setup_header}
 use Rattle.ltm_casefile.specs.Links.{link_record, cause_of_link, link_added}
 use Rattle.ltm_casefile.specs.Links as links
 use Rattle.ltm_casefile.specs.Demand.{demand_record, demand_ends, demand_row, place_of, with_demand_record, demand_added}
@@ -142,7 +142,7 @@ with_link_told : (s : ScenarioData) (name tail head : List ℕ) (d : Diagram) �
 unfolding with_link
 with_link_told s name tail head d =
     then_told OfLink (of_network (network.with_link s.network name tail head)) _ (of_network_told _ (network_told s.network name tail head))
-    (λ next. then_told OfLink (of_diagram (limits_of d s.setup.step.0)) _ (of_diagram_told (limits_of d s.setup.step.0)) (λ limits. fine _ _))
+    (λ next. then_told OfLink (of_diagram (limits_of d s.setup.step.0 s.setup.carry)) _ (of_diagram_told (limits_of d s.setup.step.0 s.setup.carry)) (λ limits. fine _ _))
 
 linked_clean : (r : Result ScenarioData LinkFault) → Told OfLink r → Clean (links.linked r)
 linked_clean (Ok next) is = fine IsNoWant next
@@ -252,7 +252,8 @@ setup_record_clean columns fields =
     then_clean (number_if columns.rows default_split_rows fields (rows_field columns)) _ (number_clean columns.rows default_split_rows fields (rows_field columns)) (λ split_rows.
     then_clean (number_if columns.links default_links fields (links_field columns)) _ (number_clean columns.links default_links fields (links_field columns)) (λ links.
     then_clean (number_if columns.destinations default_destinations fields (destinations_field columns)) _ (number_clean columns.destinations default_destinations fields (destinations_field columns)) (λ destinations.
-    then_clean (number_if columns.moves 0 fields (moves_field columns)) _ (number_clean columns.moves 0 fields (moves_field columns)) (λ moves. fine _ _))))))))))))
+    then_clean (number_if columns.moves 0 fields (moves_field columns)) _ (number_clean columns.moves 0 fields (moves_field columns)) (λ moves.
+    then_clean (number_if columns.carry 0 fields (carry_field columns)) _ (number_clean columns.carry 0 fields (carry_field columns)) (λ carry. fine _ _)))))))))))))
 
 flags_clean : (columns : Columns) (r : SetupRecord) → Clean (flags_checked columns r)
 flags_clean columns r =
@@ -260,7 +261,9 @@ flags_clean columns r =
     refused (nat_lt 1 r.limits) (cause.Range (limits_field columns)) tt)
 
 in_range_clean : (columns : Columns) (r : SetupRecord) (checked : Result (Unit {0}) SetupFault) → Clean (in_range columns r checked)
-in_range_clean columns r (Ok x) = then_clean (flags_checked columns r) _ (flags_clean columns r) (λ _. refused (nat_lt 1 r.moves) (cause.Range (moves_field columns)) tt)
+in_range_clean columns r (Ok x) = then_clean (flags_checked columns r) _ (flags_clean columns r) (λ _.
+    then_clean (refuse (nat_lt 1 r.moves) (cause.Range (moves_field columns))) _ (refused (nat_lt 1 r.moves) (cause.Range (moves_field columns)) tt) (λ _.
+    refused (nat_lt 1 r.carry) (cause.Range (carry_field columns)) tt))
 in_range_clean columns r (Err (setup_fault.Range field)) = wrong IsNoWant _ tt
 in_range_clean columns r (Err setup_fault.MostCells) = then_clean (flags_checked columns r) _ (flags_clean columns r) (λ _. wrong IsNoWant _ tt)
 in_range_clean columns r (Err setup_fault.MostRows) = then_clean (flags_checked columns r) _ (flags_clean columns r) (λ _. wrong IsNoWant _ tt)

@@ -46,7 +46,7 @@ keeps_on s (Err fault) next kept keeps = tt
 with_link_keeps : (s : ScenarioData) (name tail head : List ℕ) (d : Diagram) → Keeps s (with_link s name tail head d)
 unfolding with_link
 with_link_keeps s name tail head d =
-    then_keeps s (of_network (network.with_link s.network name tail head)) _ (λ next. then_keeps s (of_diagram (limits_of d s.setup.step.0)) _ (λ limits. refl))
+    then_keeps s (of_network (network.with_link s.network name tail head)) _ (λ next. then_keeps s (of_diagram (limits_of d s.setup.step.0 s.setup.carry)) _ (λ limits. refl))
 
 linked_keeps : (s : ScenarioData) (r : Result ScenarioData LinkFault) → Keeps s r → Keeps s (links.linked r)
 linked_keeps s (Ok next) keeps = keeps

@@ -1,4 +1,5 @@
--- The header of a setup: three columns, and then any of signals, limits, cells, rows, links, destinations and moves, in this order.
+-- The header of a setup: three columns, and then any of signals, limits, cells, rows, links, destinations,
+-- moves and carry, in this order.
 use Rattle.std.specs.Prelude.{ℕ, ◌+◌, ◌==◌, ◌&&◌, codes, Bool, if◌then◌else◌, length}
 use Rattle.ltm_records.specs.Fields.{Fields, has}
 use Rattle.ltm_casefile.specs.declared.columns.Columns.{Columns}
@@ -26,11 +27,14 @@ destinations_field c = links_field c + one_if c.links
 abbrev pub moves_field : Columns → ℕ
 moves_field c = destinations_field c + one_if c.destinations
 
+abbrev pub carry_field : Columns → ℕ
+carry_field c = moves_field c + one_if c.moves
+
 -- how many fields a record has
 abbrev pub width_of : Columns → ℕ
-width_of c = 3 + one_if c.signals + one_if c.limits + one_if c.cells + one_if c.rows + one_if c.links + one_if c.destinations + one_if c.moves
+width_of c = 3 + one_if c.signals + one_if c.limits + one_if c.cells + one_if c.rows + one_if c.links + one_if c.destinations + one_if c.moves + one_if c.carry
 
--- which of the seven a header has
+-- which of the eight a header has
 unfoldable pub columns_of : Fields → Columns
 columns_of fields =
     let signals = has fields 3 (codes "signals") in
@@ -44,8 +48,10 @@ columns_of fields =
     let links = has fields links_at (codes "links") in
     let destinations_at = links_at + one_if links in
     let destinations = has fields destinations_at (codes "destinations") in
-    let moves = has fields (destinations_at + one_if destinations) (codes "moves") in
-    record { signals = signals; limits = limits; cells = cells; rows = rows; links = links; destinations = destinations; moves = moves }
+    let moves_at = destinations_at + one_if destinations in
+    let moves = has fields moves_at (codes "moves") in
+    let carry = has fields (moves_at + one_if moves) (codes "carry") in
+    record { signals = signals; limits = limits; cells = cells; rows = rows; links = links; destinations = destinations; moves = moves; carry = carry }
 
 -- a header has no other column
 abbrev pub is_setup_header : Fields → Bool

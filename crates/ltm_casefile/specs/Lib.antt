@@ -5,6 +5,7 @@ pub mod Demand
 pub mod Faults
 pub mod Fields
 pub mod Folder
+pub mod Headers
 pub mod Links
 pub mod Roads
 pub mod Rows

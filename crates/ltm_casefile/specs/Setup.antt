@@ -16,7 +16,7 @@ use Rattle.ltm_casefile.specs.declared.faults.File.TheVariants as file
 use Rattle.ltm_casefile.specs.declared.columns.Columns.{Columns}
 use Rattle.ltm_casefile.specs.declared.setup.SetupRecord.{SetupRecord}
 use Rattle.ltm_casefile.specs.declared.setup.Opened.{Opened}
-use Rattle.ltm_casefile.specs.Columns.{limits_field, cells_field, rows_field, links_field, destinations_field, moves_field, width_of, columns_of, is_setup_header}
+use Rattle.ltm_casefile.specs.Columns.{limits_field, cells_field, rows_field, links_field, destinations_field, moves_field, carry_field, width_of, columns_of, is_setup_header}
 use Rattle.ltm_casefile.specs.Fields.{has_width, number_in, amount_in}
 use Rattle.ltm_casefile.specs.Rows.{at_row, below_header}
 
@@ -40,6 +40,7 @@ setup_record columns fields =
     number_if columns.links default_links fields (links_field columns) >>= λ links.
     number_if columns.destinations default_destinations fields (destinations_field columns) >>= λ destinations.
     number_if columns.moves 0 fields (moves_field columns) >>= λ moves.
+    number_if columns.carry 0 fields (carry_field columns) >>= λ carry.
     Ok (record {
       setup = record {
         step = record { 0 = step };
@@ -51,10 +52,12 @@ setup_record columns fields =
         most_links = links;
         most_destinations = destinations;
         by_turn = moves == 1;
+        carry = carry == 1;
       };
       signals = signals;
       limits = limits;
       moves = moves;
+      carry = carry;
     })
 
 -- signals and limits are 0 or 1
@@ -68,9 +71,9 @@ abbrev pub after_flags : Columns → SetupRecord → ℕ → Result (Unit {0}) C
 after_flags columns r field = flags_checked columns r >>= λ _. Err (Range field)
 
 -- the first field that is out of its limits, in the order of the header: signals and limits stand before what bounds the
--- case, and moves, which is 0 or 1, behind that
+-- case, and moves and carry, which are 0 or 1, behind that
 abbrev pub in_range : Columns → SetupRecord → Result (Unit {0}) SetupFault → Result (Unit {0}) CaseCause
-in_range columns r (Ok x) = flags_checked columns r >>= λ _. refuse (nat_lt 1 r.moves) (Range (moves_field columns))
+in_range columns r (Ok x) = flags_checked columns r >>= λ _. refuse (nat_lt 1 r.moves) (Range (moves_field columns)) >>= λ _. refuse (nat_lt 1 r.carry) (Range (carry_field columns))
 in_range columns r (Err (OutOfRange field)) = Err (Range field)
 in_range columns r (Err MostCells) = after_flags columns r (cells_field columns)
 in_range columns r (Err MostRows) = after_flags columns r (rows_field columns)

@@ -1,7 +1,7 @@
 //! The header of a setup.
 ghost use Rattle.std.specs.Prelude.{◌≡◌, ◌≤◌};
 ghost use Rattle.csv.specs.Records.{fields_of};
-ghost use Rattle.ltm_casefile.specs.Columns.{one_if, limits_field, cells_field, rows_field, links_field, destinations_field, moves_field, width_of, columns_of, is_setup_header};
+ghost use Rattle.ltm_casefile.specs.Columns.{one_if, limits_field, cells_field, rows_field, links_field, destinations_field, moves_field, carry_field, width_of, columns_of, is_setup_header};
 
 use csv::ByteRecord;
 use ltm_records::{has, width};
@@ -23,6 +23,8 @@ pub struct Columns {
     pub destinations: bool,
     /// Whether turns are floored whole.
     pub moves: bool,
+    /// Whether what is left over of capacities is carried.
+    pub carry: bool,
 }
 
 fn one_if(there: bool) -> u32
@@ -51,6 +53,8 @@ impl Columns {
         let destinations = has(header, destinations_at, b"destinations");
         let moves_at = destinations_at + one_if(destinations) as usize;
         let moves = has(header, moves_at, b"moves");
+        let carry_at = moves_at + one_if(moves) as usize;
+        let carry = has(header, carry_at, b"carry");
         Columns {
             signals,
             limits,
@@ -59,6 +63,7 @@ impl Columns {
             links,
             destinations,
             moves,
+            carry,
         }
     }
 
@@ -67,7 +72,7 @@ impl Columns {
         ensures { result ≡ width_of self }
     {
         let sizes = one_if(self.cells) + one_if(self.rows) + one_if(self.links);
-        let others = one_if(self.destinations) + one_if(self.moves);
+        let others = one_if(self.destinations) + one_if(self.moves) + one_if(self.carry);
         (3 + one_if(self.signals) + one_if(self.limits) + sizes + others) as usize
     }
 
@@ -113,14 +118,22 @@ impl Columns {
 
     /// Where the field of the moves stands.
     pub fn moves_field(self) -> u32
-        ensures { result ≡ moves_field self }
+        ensures field { result ≡ moves_field self }
+        ensures small { result ≤ 10 }
     {
         self.destinations_field() + one_if(self.destinations)
+    }
+
+    /// Where the field of what is carried stands.
+    pub fn carry_field(self) -> u32
+        ensures { result ≡ carry_field self }
+    {
+        self.moves_field() + one_if(self.moves)
     }
 }
 
 /// Whether the record is `step_ms,slots,origin_capacity`, then any of `signals`, `limits`, `cells`, `rows`, `links`,
-/// `destinations` and `moves` in this order.
+/// `destinations`, `moves` and `carry` in this order.
 pub fn is_setup_header(row: &ByteRecord) -> bool
     ensures { result ≡ is_setup_header (fields_of row.now) }
 {

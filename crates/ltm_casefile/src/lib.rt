@@ -24,5 +24,5 @@ mod tables;
 pub use case::{check_case, read_case};
 pub use faults::{CaseCause, CaseFault, File};
 pub use fetch::LONGEST_FILE;
-pub use laws::memory_is_never_a_bad_case;
+pub use laws::{headers_are_read, memory_is_never_a_bad_case};
 pub use roads::read_roads;

@@ -28,6 +28,8 @@ pub struct SetupRecord {
     pub limits: u32,
     /// 1 where turns are floored whole.
     pub moves: u32,
+    /// 1 where what is left over of capacities is carried.
+    pub carry: u32,
 }
 
 /// Which files of limits the setup asks for.
@@ -80,6 +82,7 @@ fn read_record(columns: Columns, row: &ByteRecord) -> Result<SetupRecord, CaseCa
         destinations,
     )?;
     let moves = read_if(columns.moves, 0, row, columns.moves_field())?;
+    let carry = read_if(columns.carry, 0, row, columns.carry_field())?;
     let setup = Setup {
         step: Millis(u64::from(step)),
         slots,
@@ -90,12 +93,14 @@ fn read_record(columns: Columns, row: &ByteRecord) -> Result<SetupRecord, CaseCa
         most_links,
         most_destinations,
         by_turn: moves == 1,
+        carry: carry == 1,
     };
     Ok(SetupRecord {
         setup,
         signals,
         limits,
         moves,
+        carry,
     })
 }
 
@@ -149,6 +154,9 @@ fn open(alloc: Global, columns: Columns, said: &SetupRecord) -> Result<Opened, C
     }
     if said.moves > 1 {
         return Err(CaseCause::Range(columns.moves_field()));
+    }
+    if said.carry > 1 {
+        return Err(CaseCause::Range(columns.carry_field()));
     }
     let asked = Asked {
         signals: said.signals == 1,

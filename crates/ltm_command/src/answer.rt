@@ -22,6 +22,7 @@ use ltm_make::MakeFault;
 use ltm_routes_command::{RouteLines, route_text};
 use ltm_try_command::try_report;
 use std::alloc::Global;
+use std::thread::Threads;
 
 /// The lines of least routes over the folder's roads, or why there are none.
 #[tactic(auto, using(crate::proofs::MissingFile::routes_failed, crate::proofs::Answering::routes_fault))]
@@ -71,7 +72,8 @@ fn check<F: OpenFolder>(alloc: Global, folder: &mut F) -> Result<Vec<u8>, Refusa
 }
 
 /// What a command answers that asks nothing but what the files of a case say.
-fn case_answer<F: Folder>(
+fn case_answer<R: Threads + Sync, F: Folder>(
+    rt: &R,
     alloc: Global,
     command: Command,
     folder: &mut F,
@@ -91,7 +93,7 @@ fn case_answer<F: Folder>(
         → FileFailed command (F.told folder.old) (F.faults folder.old) (F.faults folder.new) }
 {
     match command {
-        Command::Report(report) => report_case(alloc, report, folder),
+        Command::Report(report) => report_case(rt, alloc, report, folder),
         Command::Routes(lines) => routes(alloc, lines, folder),
         Command::Try { start, nodes } => trial(alloc, start, nodes),
         Command::Curves => unreachable!(),
@@ -103,7 +105,12 @@ fn case_answer<F: Folder>(
 }
 
 /// A text, or the fault of a case as a refusal.
-fn told<F: Folder>(alloc: Global, command: Command, folder: &mut F) -> Result<Vec<u8>, Refusal>
+fn told<R: Threads + Sync, F: Folder>(
+    rt: &R,
+    alloc: Global,
+    command: Command,
+    folder: &mut F,
+) -> Result<Vec<u8>, Refusal>
     requires text { HasText command }
     requires sized { IsSized command }
     requires no_check { command ≢ Command.Check }
@@ -118,14 +125,15 @@ fn told<F: Folder>(alloc: Global, command: Command, folder: &mut F) -> Result<Ve
     ensures failed { (refusal : Refusal) → result ≡ Err refusal → IsMissing refusal
         → FileFailed command (F.told folder.old) (F.faults folder.old) (F.faults folder.new) }
 {
-    match case_answer(alloc, command, folder) {
+    match case_answer(rt, alloc, command, folder) {
         Ok(text) => Ok(text),
         Err(fault) => Err(Refusal::Case(fault)),
     }
 }
 
 /// The whole text that a command answers to a folder, or why there is none.
-pub fn answer<F: OpenFolder>(
+pub fn answer<R: Threads + Sync, F: OpenFolder>(
+    rt: &R,
     alloc: Global,
     command: Command,
     folder: &mut F,
@@ -145,6 +153,6 @@ pub fn answer<F: OpenFolder>(
 {
     match command {
         Command::Check => check(alloc, folder),
-        _ => told(alloc, command, folder),
+        _ => told(rt, alloc, command, folder),
     }
 }

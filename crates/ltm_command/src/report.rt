@@ -14,10 +14,12 @@ use ltm_casefile::{CaseFault, read_case};
 use ltm_io::Folder;
 use ltm_report::{delay_report_of, gap_report_of, report_of};
 use std::alloc::Global;
+use std::thread::Threads;
 
 /// A report of the folder's case, or why there is none.
 #[tactic(auto, using(crate::proofs::MissingFile::failed, crate::proofs::Answering::report_told, crate::proofs::Answering::report_fault))]
-pub fn report_case<F: Folder>(
+pub fn report_case<R: Threads + Sync, F: Folder>(
+    rt: &R,
     alloc: Global,
     report: Report,
     folder: &mut F,
@@ -39,6 +41,6 @@ pub fn report_case<F: Folder>(
     match report {
         Report::Load => Ok(report_of(alloc, &scenario)?),
         Report::Delay => Ok(delay_report_of(alloc, &scenario)?),
-        Report::Gap => Ok(gap_report_of(alloc, &scenario)?),
+        Report::Gap => Ok(gap_report_of(rt, alloc, &scenario)?),
     }
 }

@@ -14,9 +14,11 @@ use crate::status::Status;
 use crate::words::Command;
 use ltm_io::{OpenFolder, Sink};
 use std::alloc::Global;
+use std::thread::Threads;
 
 /// Writes a text that was made whole before, or says why there is none.
-fn run_text<F: OpenFolder, W: Sink>(
+fn run_text<R: Threads + Sync, F: OpenFolder, W: Sink>(
+    rt: &R,
     alloc: Global,
     command: Command,
     folder: &mut F,
@@ -33,14 +35,15 @@ fn run_text<F: OpenFolder, W: Sink>(
         (outside (F.told folder.new) (F.faults folder.new) left read_faults (W.written output.new)
         (W.faults output.new)) }
 {
-    match answer(alloc, command, folder) {
+    match answer(rt, alloc, command, folder) {
         Ok(text) => write_text(output, text.as_slice(), Status::Ok),
         Err(refusal) => refuse(alloc, refusal, output),
     }
 }
 
 /// Writes what a command answers to a folder, or says why there is no answer; whatever the input holds, it stays as it is.
-pub fn run_command<F: OpenFolder, W: Sink>(
+pub fn run_command<R: Threads + Sync, F: OpenFolder, W: Sink>(
+    rt: &R,
     alloc: Global,
     command: Command,
     folder: &mut F,
@@ -58,6 +61,6 @@ pub fn run_command<F: OpenFolder, W: Sink>(
 {
     match command {
         Command::Curves => run_curves(alloc, folder, output),
-        _ => run_text(alloc, command, folder, output),
+        _ => run_text(rt, alloc, command, folder, output),
     }
 }

@@ -1,3 +1,4 @@
 pub mod Limits
+pub mod Passing
 pub mod InRange
 pub mod Delays

@@ -1,5 +1,5 @@
 //! - **What it is**: the triangular diagram of a link, and the limits that it sets: how soon a vehicle reaches the other
-//!   end, how soon free space does, how much passes in a slot and how much fits.
+//!   end, how soon free space does, how much passes in each slot and how much fits.
 //! - **On what it stands**: `ltm_units` alone.
 //! - **What a call costs**: a few divisions, and no memory.
 //! - **When to change it here**: when another form of diagram sets the limits of a link, or its sizes have other bounds.
@@ -11,4 +11,4 @@ mod laws;
 
 pub use delay::{Delay, Delays};
 pub use diagram::{Diagram, DiagramFault, Field, Limits};
-pub use laws::limits_in_range;
+pub use laws::{all_slots_alike, limits_in_range, nothing_is_lost, whole_or_one_more};

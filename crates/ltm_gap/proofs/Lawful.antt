@@ -1,5 +1,5 @@
 -- The links of a loading are ways, so earliest arrivals are the first.
-use Rattle.std.proofs.Common.{◌≡◌, ℕ, ◌+◌, ◌*◌, ◌<◌, ◌≤◌, List, Option, Some, None, refl, sym, subst, arith, ◌∙◌}
+use Rattle.std.proofs.Common.{◌≡◌, ℕ, ◌+◌, ◌*◌, ◌<◌, ◌≤◌, List, [], ◌∷◌, Option, Some, None, refl, sym, subst, arith, ◌∙◌}
 use Rattle.ltm_units.proofs.Sums.{sum_below-le}
 use Rattle.ltm_curve.specs.Counts.{Counts, Rises}
 use Rattle.ltm_curve.specs.TotalCurves.{total_groups, total_at}
@@ -8,17 +8,20 @@ use Rattle.ltm_loading.specs.Loading.{IsLoading}
 use Rattle.ltm_loading.specs.LoadingLaws.{NeverFall}
 use Rattle.ltm_loading.specs.Groups.{up_of, groups}
 use Rattle.ltm_loading.specs.Totals.{entered_link, left_link}
+use Rattle.ltm_flows.specs.Origins.{departed_from}
 use Rattle.ltm_flows.specs.declared.loading.Loading.{Loading}
 use Rattle.ltm_flows.specs.Shown.{curves_of, last_of, links_of, nodes_of}
 use Rattle.ltm_flows.specs.Counted.{entered_by, left_by}
-use Rattle.ltm_search.specs.Ways.{Ways, IsRoute, arrival}
+use Rattle.ltm_search.specs.Ways.{Ways, AreWays, IsRoute, arrival, IsFirst, IsEarliest}
+use Rattle.ltm_search.proofs.Passed.{and_then_some, and_then_at}
 use Rattle.ltm_gap.specs.Leaving.{end_of, leaves_by, starts}
 use Rattle.ltm_gap.specs.Within.{IsEarliestFrom}
 use Rattle.ltm_gap.specs.Earliest.{ways, earliest}
 use Rattle.ltm_gap.specs.Told.{Suits}
 use Rattle.ltm_gap.specs.Steps.{read_ways}
 use Rattle.ltm_gap.proofs.Passing.{passes_later, passes_rises}
-use Rattle.ltm_gap.proofs.Reaching.{is_reached}
+use Rattle.ltm_gap.specs.Laws.{EarliestIsFirst, NobodyComesBefore, ArriveInOrder}
+use Rattle.ltm_gap.proofs.Reaching.{is_reached, first_sooner}
 use Rattle.ltm_gap.proofs.Within.{AreStepped, StartsBy, within_earliest}
 
 -- links that are passed by curves which rise
@@ -58,15 +61,16 @@ entered_rises s c never is loading link low = λ k below.
 pub are_ways : (s : Setting) (c : Counts) → NeverFall → IsSetting s → IsLoading s c → AreStepped (ways s c) s.step (end_of s)
 are_ways s c never is loading = passed_ways s (entered_link s c) (left_link s c) is (entered_rises s c never is loading)
 
-pub starts_within : (s : Setting) (c : Counts) (origin boundary : ℕ) → StartsBy (starts s c origin boundary) (end_of s)
-starts_within s c origin boundary = go (starts s c origin boundary) refl
+pub starts_within : (s : Setting) (c : Counts) (origin slot number : ℕ) → StartsBy (starts s c origin slot number) (end_of s)
+starts_within s c origin slot number = go (starts s c origin slot number) refl
   where
-    go : (o : Option ℕ) → starts s c origin boundary ≡ o → StartsBy o (end_of s)
+    go : (o : Option ℕ) → starts s c origin slot number ≡ o → StartsBy o (end_of s)
     go None is = tt
     go (Some start) is = (is_reached _ s.step s.slots _ _ start is).within
 
-pub earliest_first : NeverFall → (s : Setting) (c : Counts) → IsSetting s → IsLoading s c → (origin boundary node : ℕ) → IsEarliestFrom (ways s c) origin (starts s c origin boundary) node (earliest s c origin boundary node)
-earliest_first never s c is loading origin boundary node = within_earliest (ways s c) s.step s.slots (are_ways s c never is loading) origin (starts s c origin boundary) node (starts_within s c origin boundary)
+pub earliest_first : NeverFall → (s : Setting) (c : Counts) → IsSetting s → IsLoading s c → (origin slot number node : ℕ) → IsEarliestFrom (ways s c) origin (starts s c origin slot number) node (earliest s c origin slot number node)
+earliest_first never s c is loading origin slot number node =
+    within_earliest (ways s c) s.step s.slots (are_ways s c never is loading) origin (starts s c origin slot number) node (starts_within s c origin slot number)
 
 first_of : (w : Ways) (from start node time : ℕ) (links : List ℕ) (first : Option ℕ) → IsEarliestFrom w from (Some start) node first → IsRoute w from node links → arrival w links start ≡ Some time
     → (x : ℕ) × (first ≡ Some x) × (x ≤ time)
@@ -76,9 +80,47 @@ first_of w from start node time links None is route arrives = absurd (never (sym
     never e = cc
 first_of w from start node time links (Some x) is route arrives = (x, refl, is.first links time route arrives)
 
-pub nobody_before : ((s : Setting) (c : Counts) → IsSetting s → IsLoading s c → (origin boundary node : ℕ) → IsEarliestFrom (ways s c) origin (starts s c origin boundary) node (earliest s c origin boundary node))
-    → (s : Setting) (c : Counts) → IsSetting s → IsLoading s c → (origin boundary node start time : ℕ) (links : List ℕ) → starts s c origin boundary ≡ Some start → IsRoute (ways s c) origin node links
-    → arrival (ways s c) links start ≡ Some time → (first : ℕ) × (earliest s c origin boundary node ≡ Some first) × (first ≤ time)
-nobody_before first s c is loading origin boundary node start time links starts_at route arrives =
-    first_of (ways s c) origin start node time links (earliest s c origin boundary node)
-    (subst (λ o. IsEarliestFrom (ways s c) origin o node (earliest s c origin boundary node)) starts_at (first s c is loading origin boundary node)) route arrives
+pub nobody_before : EarliestIsFirst → (s : Setting) (c : Counts) → IsSetting s → IsLoading s c → (origin slot number node start time : ℕ) (links : List ℕ) → starts s c origin slot number ≡ Some start
+    → IsRoute (ways s c) origin node links → arrival (ways s c) links start ≡ Some time → (first : ℕ) × (earliest s c origin slot number node ≡ Some first) × (first ≤ time)
+nobody_before first s c is loading origin slot number node start time links starts_at route arrives =
+    first_of (ways s c) origin start node time links (earliest s c origin slot number node)
+    (subst (λ o. IsEarliestFrom (ways s c) origin o node (earliest s c origin slot number node)) starts_at (first s c is loading origin slot number node)) route arrives
+
+-- ---- who sets out sooner arrives no later
+arrival_rises : (w : Ways) (bound : ℕ → ℕ) → AreWays w bound → (links : List ℕ) (from to x y exit : ℕ) → IsRoute w from to links → x ≤ y → arrival w links y ≡ Some exit
+    → (before : ℕ) × (arrival w links x ≡ Some before) × (before ≤ exit)
+arrival_rises w bound ways [] from to x y exit route l is = let same : y ≡ exit = told is in (x, refl, omega arith)
+  where
+    told : {x y : ℕ} → Some x ≡ Some y → x ≡ y
+    told e = cc
+arrival_rises w bound ways (link ∷ links) from to x y exit route l is =
+    let next = and_then_some (arrival w links) (w.leaves link y) exit is in
+    let sooner = ways.rises link x y next.0 route.0 l next.1 in
+    let rest = arrival_rises w bound ways links (w.head link) to sooner.0 next.0 exit route.2 sooner.2 next.2 in
+    (rest.0, and_then_at (arrival w links) (w.leaves link x) sooner.0 (Some rest.0) sooner.1 rest.1, rest.2)
+
+-- the route of an earliest arrival
+pub record IsSet (w : Ways) (from : ℕ) (start : Option ℕ) (node time : ℕ) : Type 0 where
+  pub out : ℕ
+  pub starts : start ≡ Some out
+  pub links : List ℕ
+  pub route : IsRoute w from node links
+  pub arrives : arrival w links out ≡ Some time
+
+pub is_set : (w : Ways) (from : ℕ) (start : Option ℕ) (node time : ℕ) (o : Option ℕ) → o ≡ Some time → IsEarliestFrom w from start node o → IsSet w from start node time
+is_set w from None node time o at is = absurd (never (sym is ∙ at))
+  where
+    never : {y : ℕ} → None ≡ Some y → ⊥
+    never e = cc
+is_set w from (Some start) node time o at is =
+    let first : IsFirst w from start node time = subst (λ (z : Option ℕ). IsEarliest w from start node z) at is in
+    let taken = first.taken in
+    record { out = start; starts = refl; links = taken.0; route = taken.1; arrives = taken.2 }
+
+pub in_order : EarliestIsFirst → NobodyComesBefore → NeverFall → ArriveInOrder
+in_order first nobody never = λ s c is loading origin slot before number node time fewer at.
+    let set = is_set (ways s c) origin (starts s c origin slot number) node time (earliest s c origin slot number node) at (first s c is loading origin slot number node) in
+    let out = first_sooner (departed_from s c origin) s.step s.slots before number (slot * s.step) (slot * s.step) set.out fewer (omega arith) set.starts in
+    let there = arrival_rises (ways s c) (λ n. end_of s) (are_ways s c never is loading).ways set.links origin node out.0 set.out time set.route out.2 set.arrives in
+    let sooner = nobody s c is loading origin slot before node out.0 there.0 set.links out.1 set.route there.1 in
+    (sooner.0, sooner.1, omega (arith, sooner.2, there.2))

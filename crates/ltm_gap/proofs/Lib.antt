@@ -5,7 +5,11 @@ pub mod Within
 pub mod Alike
 pub mod Reaching
 pub mod Lawful
+pub mod Meeting
+pub mod Cuts
+pub mod Spent
 pub mod Out
 pub mod Shown
 pub mod Adding
+pub mod Parting
 pub mod Same

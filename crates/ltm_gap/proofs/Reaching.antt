@@ -18,7 +18,7 @@ use Rattle.ltm_flows.specs.Counted.{entered_by, left_by}
 use Rattle.ltm_gap.specs.Told.{Suits}
 use Rattle.ltm_gap.specs.Steps.{first_out}
 use Rattle.ltm_gap.specs.Leaving.{end_of, lets_out, may_leave, leaves_from, first_from}
-use Rattle.ltm_gap.proofs.Firsts.{both, left_of, right_of, not_left, not_right, at_most, is_at_most, more, same_first, one_by_one}
+use Rattle.ltm_gap.proofs.Firsts.{both, left_of, right_of, not_left, not_right, at_most, is_at_most, more, same_first, found_before, one_by_one}
 
 pub from_past : (f : ℕ → ℕ) (step slots count from : ℕ) → slots * step < from → None ≡ first_from f step slots count from
 unfolding first_from
@@ -72,6 +72,15 @@ is_reached f step slots count from moment is =
       within = omega (arith, h.below);
       has = is_at_most count (interpolated f step moment) (right_of (nat_le from moment) (nat_le count (interpolated f step moment)) h.holds);
     }
+
+-- fewer units from an earlier moment on come no later
+pub first_sooner : (f : ℕ → ℕ) (step slots few many from on y : ℕ) → few ≤ many → from ≤ on → first_from f step slots many on ≡ Some y → (x : ℕ) × (first_from f step slots few from ≡ Some x) × (x ≤ y)
+unfolding first_from
+first_sooner f step slots few many from on y fewer earlier is =
+    found_before (λ m. nat_le from m && nat_le few (interpolated f step m)) (λ m. nat_le on m && nat_le many (interpolated f step m)) (slots * step + 1) y (λ k low h.
+    let late : on ≤ k = is_at_most on k (left_of (nat_le on k) (nat_le many (interpolated f step k)) h) in
+    let has : many ≤ interpolated f step k = is_at_most many (interpolated f step k) (right_of (nat_le on k) (nat_le many (interpolated f step k)) h) in
+    both (nat_le from k) (nat_le few (interpolated f step k)) (at_most from k (omega arith)) (at_most few (interpolated f step k) (omega arith))) is
 
 -- ---- who leaves a link
 and_both : (a b c : Bool) → (a && (b && c)) ≡ ((a && b) && c)

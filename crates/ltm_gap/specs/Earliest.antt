@@ -10,7 +10,7 @@ use Rattle.ltm_gap.specs.Within.{earliest_within}
 abbrev pub ways : Setting → Counts → Ways
 ways s c = record { nodes = s.nodes; links = s.links; tail = s.tail; head = s.head; leaves = leaves s c }
 
--- when one could come to a node at the earliest who is produced at an origin at a boundary; each link takes a step, so who
--- passes more links than there are slots comes after the end
-abbrev pub earliest : Setting → Counts → ℕ → ℕ → ℕ → Option ℕ
-earliest s c origin boundary = earliest_within (ways s c) origin (starts s c origin boundary) s.slots
+-- when the unit of a number, which an origin produces in a slot, could come to a node at the earliest; each link takes a step, so
+-- who passes more links than there are slots comes after the end
+abbrev pub earliest : Setting → Counts → ℕ → ℕ → ℕ → ℕ → Option ℕ
+earliest s c origin slot number = earliest_within (ways s c) origin (starts s c origin slot number) s.slots

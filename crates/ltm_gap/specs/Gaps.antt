@@ -1,46 +1,78 @@
--- What those who travel spend, and the least that they could, in units times milliseconds.
-use Rattle.std.specs.Prelude.{ℕ, ◌+◌, ◌-◌, ◌*◌, ◌/◌, Option, Some, None}
+-- What those who travel spend, an estimate of the least that they could, and who is late, in units times milliseconds and units.
+use Rattle.std.specs.Prelude.{ℕ, ◌+◌, ◌-◌, ◌*◌, ◌/◌, Bool, true, false, Option, Some, None}
+use Rattle.ltm_units.specs.Numbers.{first_below}
 use Rattle.ltm_units.specs.Sums.{sum_below}
 use Rattle.ltm_curve.specs.Counts.{Counts}
 use Rattle.ltm_loading.specs.Setting.{Setting}
 use Rattle.ltm_loading.specs.Groups.{arr_of}
+use Rattle.ltm_flows.specs.Origins.{produced_in_all}
 use Rattle.ltm_gap.specs.Earliest.{earliest}
 
 -- what an origin produces for a destination in a slot
 abbrev pub produced_in : Setting → ℕ → ℕ → ℕ → ℕ
 produced_in s origin destination slot = s.produced origin destination (slot + 1) - s.produced origin destination slot
 
--- ---- of those who are produced in a slot, from the earliest arrivals of one who is produced at its start and of one at its end
--- twice their least time, on the mean of these two; until the end where one of the two does not arrive by then
-abbrev pub twice_least : ℕ → ℕ → ℕ → Option ℕ → Option ℕ → ℕ
-twice_least step slots slot (Some first) (Some last) = (first - slot * step) + (last - (slot + 1) * step)
-twice_least step slots slot (Some first) None = 2 * ((slots - slot) * step)
-twice_least step slots slot None last = 2 * ((slots - slot) * step)
+-- and for all destinations
+abbrev pub units_in : Setting → ℕ → ℕ → ℕ
+units_in s origin slot = produced_in_all s origin (slot + 1) - produced_in_all s origin slot
 
--- and so many of them are late
-abbrev pub late_of : ℕ → Option ℕ → Option ℕ → ℕ
-late_of units (Some first) (Some last) = 0
-late_of units (Some first) None = units
-late_of units None last = units
+-- ---- which of the units of a slot arrive
+abbrev pub is_none : Option ℕ → Bool
+is_none None = true
+is_none (Some x) = false
 
--- when one could come to a destination at the earliest
-abbrev pub earliest_to : Setting → Counts → ℕ → ℕ → ℕ → Option ℕ
-earliest_to s c destination origin boundary = earliest s c origin boundary (s.place destination)
+abbrev pub number_or : ℕ → Option ℕ → ℕ
+number_or other None = other
+number_or other (Some k) = k
 
-abbrev pub twice_in : Setting → Counts → ℕ → ℕ → ℕ → ℕ
-twice_in s c destination origin slot =
-    produced_in s origin destination slot
-    * twice_least s.step s.slots slot (earliest_to s c destination origin slot) (earliest_to s c destination origin (slot + 1))
+-- how many of the first n come before one that has none
+abbrev pub before_none : (ℕ → Option ℕ) → ℕ → ℕ
+before_none f n = number_or n (first_below (λ k. is_none (f k)) n)
+
+-- the earliest arrival at a node of the unit that comes behind so many of a slot's
+abbrev pub next_arrival : Setting → Counts → ℕ → ℕ → ℕ → ℕ → Option ℕ
+next_arrival s c node origin slot count = earliest s c origin slot (produced_in_all s origin slot + (count + 1)) node
+
+-- how many of a slot's units some route brings to a node by the end: those before the first that no route does
+unfoldable pub arriving : Setting → Counts → ℕ → ℕ → ℕ → ℕ
+arriving s c node origin slot = before_none (next_arrival s c node origin slot) (units_in s origin slot)
+
+-- the others are late; a destination has its share of them, rounded down
+abbrev pub share_of : ℕ → ℕ → ℕ → ℕ
+share_of units part all = units * part / all
 
 abbrev pub late_in : Setting → Counts → ℕ → ℕ → ℕ → ℕ
 late_in s c destination origin slot =
-    late_of (produced_in s origin destination slot) (earliest_to s c destination origin slot) (earliest_to s c destination origin (slot + 1))
+    share_of (produced_in s origin destination slot) (units_in s origin slot - arriving s c (s.place destination) origin slot) (units_in s origin slot)
+
+-- ---- how long they take
+-- twice the time of those who arrive, for which the mean of the first's and of the last's stands: the first's from the beginning
+-- of the slot, the last's from its end
+abbrev pub twice_time : ℕ → ℕ → Option ℕ → Option ℕ → ℕ
+twice_time step slot (Some first) (Some last) = (first - slot * step) + (last - (slot + 1) * step)
+twice_time step slot (Some first) None = 0
+twice_time step slot None last = 0
+
+-- twice the time until the end, as `spent` counts it of a unit that has not arrived
+abbrev pub twice_left : ℕ → ℕ → ℕ → ℕ
+twice_left step slots slot = 2 * ((slots - slot) * step)
+
+-- twice the time of so many units, of which some are late
+abbrev pub twice_of : ℕ → ℕ → ℕ → ℕ → ℕ
+twice_of units late time left = (units - late) * time + late * left
+
+abbrev pub twice_in : Setting → Counts → ℕ → ℕ → ℕ → ℕ
+twice_in s c destination origin slot =
+    twice_of (produced_in s origin destination slot) (late_in s c destination origin slot)
+    (twice_time s.step slot (earliest s c origin slot (produced_in_all s origin slot) (s.place destination))
+    (earliest s c origin slot (produced_in_all s origin slot + arriving s c (s.place destination) origin slot) (s.place destination)))
+    (twice_left s.step s.slots slot)
 
 -- ---- over all origins and slots
 abbrev pub over_all : Setting → (ℕ → ℕ → ℕ) → ℕ
 over_all s f = sum_below s.nodes (λ origin. sum_below s.slots (f origin))
 
--- the least time of all who travel to a destination, and how many of them no route brings there by the end
+-- an estimate of the least time of all who travel to a destination, and how many of them no route brings there by the end
 abbrev pub least_to : Setting → Counts → ℕ → ℕ
 least_to s c destination = over_all s (twice_in s c destination) / 2
 

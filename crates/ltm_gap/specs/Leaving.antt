@@ -1,11 +1,11 @@
--- When one leaves a link who comes to it at a moment, and when one starts who was produced at an origin: who is served in
+-- When one leaves a link who comes to it at a moment, and when a unit starts that an origin produces: who is served in
 -- turn leaves once all have left that came before. Moments are milliseconds from the start.
 use Rattle.std.specs.Prelude.{ℕ, ◌+◌, ◌-◌, ◌*◌, ◌/◌, ◌&&◌, Bool, nat_le, nat_lt, Option, option_and_then}
 use Rattle.ltm_units.specs.Numbers.{first_below}
 use Rattle.ltm_curve.specs.Counts.{Counts, interpolated}
 use Rattle.ltm_loading.specs.Setting.{Setting}
 use Rattle.ltm_loading.specs.Totals.{entered_link, left_link}
-use Rattle.ltm_flows.specs.Origins.{produced_in_all, departed_from}
+use Rattle.ltm_flows.specs.Origins.{departed_from}
 
 -- the end of the last slot
 abbrev pub end_of : Setting → ℕ
@@ -42,6 +42,7 @@ leaves s c link = leaves_by s link (entered_link s c link) (left_link s c link)
 unfoldable pub first_from : (ℕ → ℕ) → ℕ → ℕ → ℕ → ℕ → Option ℕ
 first_from counts step slots count from = first_below (λ m. nat_le from m && nat_le count (interpolated counts step m)) (slots * step + 1)
 
--- who is produced at a boundary starts at the first moment from then on by which as many have departed as were produced
-abbrev pub starts : Setting → Counts → ℕ → ℕ → Option ℕ
-starts s c origin boundary = first_from (departed_from s c origin) s.step s.slots (produced_in_all s origin boundary) (boundary * s.step)
+-- the unit of a number, of all that an origin produces, starts at the first moment from the beginning of its slot on by which so
+-- many have departed; with the number that was produced by a boundary it is the unit that is produced there
+abbrev pub starts : Setting → Counts → ℕ → ℕ → ℕ → Option ℕ
+starts s c origin slot number = first_from (departed_from s c origin) s.step s.slots number (slot * s.step)

@@ -5,3 +5,4 @@ pub mod Laws
 pub mod Gaps
 pub mod Told
 pub mod Steps
+pub mod Parts

@@ -1,4 +1,4 @@
-//! When one leaves a link who comes to it at a moment, and when one starts who was produced at an origin.
+//! When one leaves a link who comes to it at a moment, and when a unit starts that an origin produces.
 ghost use Rattle.std.specs.Prelude.{◌≡◌, ◌<◌, ◌≤◌, ◌+◌, ◌*◌, ◌/◌, ◌^◌, ℕ, IfSome, None, option_map, length};
 ghost use Rattle.ltm_curve.specs.TotalCurves.{total_at};
 ghost use Rattle.ltm_curve.specs.Counts.{interpolated};
@@ -180,14 +180,14 @@ pub(crate) fn leaves(
     }
 }
 
-/// When one starts at an origin who is produced there at a boundary: once all have departed that were produced before.
-pub(crate) fn starts(loading: &Loading, origin: NodeId, boundary: u32) -> Option<Millis>
+/// When the unit of a number, counted over all that an origin produces, starts: once so many have departed, and not before the
+/// beginning of its slot.
+pub(crate) fn starts(loading: &Loading, origin: NodeId, slot: u32, number: u64) -> Option<Millis>
     requires origin { origin.0 < nodes_of loading.now }
-    requires boundary { boundary ≤ last_of loading.now }
-    ensures { option_map (λ m. m.0) result ≡ read_starts loading.now origin.0 boundary }
+    requires slot { slot ≤ last_of loading.now }
+    ensures { option_map (λ m. m.0) result ≡ read_starts loading.now origin.0 slot number }
 {
-    let produced = loading.produced(origin, boundary).0;
     let group = dep_behind(loading.links(), origin);
-    let moment = Millis(u64::from(boundary) * loading.step().0);
-    reached(loading, group, produced, moment)
+    let moment = Millis(u64::from(slot) * loading.step().0);
+    reached(loading, group, number, moment)
 }

@@ -49,25 +49,27 @@ impl Links for Passed<'_> {
     }
 }
 
-/// Finds the earliest arrivals of one who is produced at an origin at a boundary.
+/// Finds the earliest arrivals of the unit of a number, counted over all that an origin produces, which it produces in a slot.
 pub(crate) fn find(
     search: &mut Search,
     scenario: &Scenario,
     loading: &Loading,
     origin: NodeId,
-    boundary: u32,
+    slot: u32,
+    number: u64,
 ) -> Result<(), NoMemory>
     requires suits { Suits (setting_of scenario.now) loading.now }
     requires origin { IsNode scenario.now origin.0 }
-    requires boundary { IsBoundary scenario.now boundary }
+    requires slot { IsBoundary scenario.now slot }
     requires one_for_each { length (arrivals_of search.old) ≡ (setting_of scenario.now).nodes }
-    ensures { OnOk result (IsFrom (setting_of scenario.now) loading.now origin.0 boundary search.new) }
+    ensures { OnOk result (IsFrom (setting_of scenario.now) loading.now origin.0 slot number
+        search.new) }
 {
     is_setting(scenario);
     earliest_is_first();
     let _step = step(scenario);
     let _slots = slot_count(scenario);
-    let Some(start) = starts(loading, origin, boundary) else {
+    let Some(start) = starts(loading, origin, slot, number) else {
         search.clear();
         return Ok(());
     };

@@ -35,7 +35,7 @@ range_of_front n a b xs l m =
 
 -- what is written over a room with these numbers at its front are inputs whose flows are read
 pub written_flows : (s : Setting) (c : Counts) (u t : ℕ) (old new : Inputs) (numbers : List ℕ) (shape : NodeShape) → shape ≡ shape_at s u → old.shape ≡ shape → new ≡ with_numbers old numbers → width shape ≤ length numbers →
-    take (counts_begin shape) numbers ≡ sending_part s c u t → slice_range numbers (supplies_begin shape) (weights_begin shape) ≡ supply_part s c u t ++ capacity_part s u → ReadsFlows s c u t new
+    take (counts_begin shape) numbers ≡ sending_part s c u t → slice_range numbers (supplies_begin shape) (weights_begin shape) ≡ supply_part s c u t ++ capacity_part s u t → ReadsFlows s c u t new
 written_flows s c u t old new numbers shape known is made long sends limits =
     let same : new.shape ≡ shape = ap (λ (n : Inputs). n.shape) made ∙ is in
     let front : new.row ≡ take (width shape) numbers =
@@ -58,7 +58,7 @@ parts_weighed s c u t old ws h w =
     let to : ℕ = weights_begin old.shape in
     let front : List ℕ = take to old.row in
     let long : length front ≡ to = length-take-le to old.row (omega (arith, h.width)) in
-    let limits : drop from front ≡ supply_part s c u t ++ capacity_part s u =
+    let limits : drop from front ≡ supply_part s c u t ++ capacity_part s u t =
     let whole : to ≡ from + (to - from) = omega arith in
     ap (λ (z : ℕ). drop from (take z old.row)) whole ∙ (drop-take from (to - from) old.row ∙ h.limits) in
     record {
@@ -66,7 +66,7 @@ parts_weighed s c u t old ws h w =
       limits =
           drop-append-le from front ws (omega (arith, long))
           ∙ (ap (λ (z : List ℕ). z ++ ws) limits
-          ∙ (ap (λ (z : List ℕ). (supply_part s c u t ++ capacity_part s u) ++ z) w ∙ append_assoc (supply_part s c u t) (capacity_part s u) (weights_part s u t)));
+          ∙ (ap (λ (z : List ℕ). (supply_part s c u t ++ capacity_part s u t) ++ z) w ∙ append_assoc (supply_part s c u t) (capacity_part s u t) (weights_part s u t)));
     }
 
 -- weights that are written behind the other numbers of a row at the front of a room

@@ -33,8 +33,8 @@ abbrev pub supply_part : Setting → Counts → ℕ → ℕ → List ℕ
 supply_part s c u t = list_below (s.outs u) (λ j. receiving s c (s.out_link u j) t)
 
 -- the capacity of each arm
-abbrev pub capacity_part : Setting → ℕ → List ℕ
-capacity_part s u = list_below (arms_of s u) (arm_capacity s u)
+abbrev pub capacity_part : Setting → ℕ → ℕ → List ℕ
+capacity_part s u t = list_below (arms_of s u) (arm_capacity s u t)
 
 -- the weights for each destination
 abbrev pub weights_part : Setting → ℕ → ℕ → List ℕ
@@ -42,7 +42,7 @@ weights_part s u t = grid s.destinations (s.outs u) (λ d j. s.weight u d t j)
 
 -- the parts behind all counts
 abbrev pub limit_parts : Setting → Counts → ℕ → ℕ → List ℕ
-limit_parts s c u t = supply_part s c u t ++ (capacity_part s u ++ weights_part s u t)
+limit_parts s c u t = supply_part s c u t ++ (capacity_part s u t ++ weights_part s u t)
 
 -- the position of a slot for each in-link of a node, none of them past the slot
 pub record ArePositions (s : Setting) (c : Counts) (u t : ℕ) (positions : List ℕ) : Type 0 where

@@ -14,4 +14,4 @@ pub record ReadsFlows (s : Setting) (c : Counts) (u t : ℕ) (n : Inputs) : Type
   pub width : length n.row ≡ width n.shape
   pub sends : take (counts_begin n.shape) n.row ≡ sending_part s c u t
   pub limits : slice_range n.row (supplies_begin n.shape) (weights_begin n.shape) ≡
-      supply_part s c u t ++ capacity_part s u
+      supply_part s c u t ++ capacity_part s u t

@@ -47,7 +47,7 @@ fn put_flows_of<K: Kind>(
         ≡ supply_part (setting_of front.entry.scenario.now)
         (counts_of front.entry.curves.now) pair.node.0 pair.slot }
     ensures capacities { capacity.new ≡ capacity_part (setting_of front.entry.scenario.now)
-        pair.node.0 }
+        pair.node.0 pair.slot }
 {
     put_arms::<K>(
         front,
@@ -88,7 +88,7 @@ fn put_flows(
         ≡ supply_part (setting_of front.entry.scenario.now)
         (counts_of front.entry.curves.now) pair.node.0 pair.slot }
     ensures capacities { capacity.new ≡ capacity_part (setting_of front.entry.scenario.now)
-        pair.node.0 }
+        pair.node.0 pair.slot }
 {
     let destinations = front.curves.destinations();
     if destinations == 1 {
@@ -128,7 +128,7 @@ fn put_flows_in_front(
     ensures limits { slice_range room.new (supplies_begin shape) (weights_begin shape)
         ≡ supply_part (setting_of front.entry.scenario.now)
         (counts_of front.entry.curves.now) pair.node.0 pair.slot
-        ++ capacity_part (setting_of front.entry.scenario.now) pair.node.0 }
+        ++ capacity_part (setting_of front.entry.scenario.now) pair.node.0 pair.slot }
     ensures positions { ArePositions (setting_of front.entry.scenario.now)
         (counts_of front.entry.curves.now) pair.node.0 pair.slot positions.new }
 {

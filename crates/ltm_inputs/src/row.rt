@@ -41,7 +41,7 @@ pub(crate) fn put_limits<K: Kind>(
     let (supply, rest) = into.split_at_mut(shape.outs as usize);
     let (capacity, weights) = rest.split_at_mut(shape.arms as usize);
     put_supply::<K>(scenario, curves, pair, supply);
-    put_capacity(scenario, pair.node, capacity);
+    put_capacity(scenario, pair, capacity);
     put_weights(scenario, pair, shape.outs, weights);
 }
 

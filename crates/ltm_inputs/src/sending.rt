@@ -11,7 +11,7 @@ ghost use Rattle.ltm_setting.specs.Places.{IsLink, IsNode, arms_at};
 use ltm_curve::{Curves, Kind};
 use ltm_scenario::Scenario;
 use ltm_sending::{link_sends, link_sends_only, link_takes, origin_sends};
-use ltm_setting::{in_links, limits, origin_capacity, out_links};
+use ltm_setting::{capacity as link_capacity, in_links, origin_capacity, out_links};
 use ltm_units::{LinkId, Pair};
 
 /// What the numbers of pairs are read of: a scenario, and curves that are the front of its loading up to a slot.
@@ -108,13 +108,13 @@ fn put_links_at<K: Kind>(
     ensures below { (i : ℕ) → i < length links.now → slice_index positions.new i ≤ slot }
     ensures capacities { (i : ℕ) → i < length links.now
         → slice_index capacity.new i
-        ≡ (setting_of front.entry.scenario.now).capacity (link_at links.now i) }
+        ≡ (setting_of front.entry.scenario.now).capacity (link_at links.now i) slot }
 {
     let Front { scenario, curves } = front;
     let destinations = K::destinations(curves) as usize;
     let mut place = 0;
     for (arm, link) in links.iter().enumerate() {
-        let most = limits(scenario, *link).capacity;
+        let most = link_capacity(scenario, *link, slot);
         positions[arm] = link_sends::<K>(
             scenario,
             curves,
@@ -152,7 +152,7 @@ pub(crate) fn put_arms<K: Kind>(
     ensures positions { ArePositions (setting_of front.entry.scenario.now)
         (counts_of front.entry.curves.now) pair.node.0 pair.slot positions.new }
     ensures capacities { capacity.new ≡ capacity_part (setting_of front.entry.scenario.now)
-        pair.node.0 }
+        pair.node.0 pair.slot }
 {
     let Front { scenario, curves } = front;
     let links = in_links(scenario, pair.node);

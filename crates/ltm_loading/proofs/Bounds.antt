@@ -23,11 +23,11 @@ use Rattle.ltm_loading.proofs.Pairs.{Leaves, link_leaves, origin_leaves, Enters,
 use Rattle.ltm_loading.proofs.Front.{earlier_front}
 use Rattle.ltm_loading.proofs.Sent.{arm_sent, some_arm_capacity, link_sent, origin_sent}
 
-pub arm_capacity_small : (s : Setting) (u i : ℕ) → IsSetting s → u < s.nodes → arm_capacity s u i ≤ 32000
-arm_capacity_small s u i v x =
+pub arm_capacity_small : (s : Setting) (u t i : ℕ) → IsSetting s → u < s.nodes → arm_capacity s u t i ≤ 32000
+arm_capacity_small s u t i v x =
     elim (cases_lt i (s.ins u)) [
-      | inl link ↦ omega (arith, pick_first i (s.ins u) (s.capacity (s.in_link u i)) s.origin_capacity link, v.small.capacities (s.in_link u i) (v.network.in_link_is_link u i x link))
-      | inr origin ↦ omega (arith, pick_second i (s.ins u) (s.capacity (s.in_link u i)) s.origin_capacity origin, v.small.origin_capacity)
+      | inl link ↦ omega (arith, pick_first i (s.ins u) (s.capacity (s.in_link u i) t) s.origin_capacity link, v.small.capacities (s.in_link u i) t (v.network.in_link_is_link u i x link))
+      | inr origin ↦ omega (arith, pick_second i (s.ins u) (s.capacity (s.in_link u i) t) s.origin_capacity origin, v.small.origin_capacity)
     ]
 
 -- what an arm sends in all, as the node reads it
@@ -35,7 +35,7 @@ sent_all : (s : Setting) (c : Counts) (t u i : ℕ) → i < arms_of s u → sent
 sent_all s c t u i l = sum_below-same s.destinations (node_sending (pair_inputs s c u t) i) (sending s c u t i) (λ d m. (pair_parts s c u t).sending i d l m)
 
 pub sent_small : (s : Setting) (c : Counts) (t u i : ℕ) → IsSetting s → IsFront s c t → t < s.slots → u < s.nodes → i < arms_of s u → sent (pair_inputs s c u t) i ≤ 32000
-sent_small s c t u i v f y x l = omega (arith, sent_all s c t u i l, arm_sent s c t u i v f y x l, arm_capacity_small s u i v x)
+sent_small s c t u i v f y x l = omega (arith, sent_all s c t u i l, arm_sent s c t u i v f y x l, arm_capacity_small s u t i v x)
 
 -- what arrives in a node step was sent
 pub arrived_within : (n : Inputs) (o : Outputs) → IsNodeStep n o → arrived_after o ≤ arrived n + sum_below n.shape.destinations (λ d. sum_below n.shape.arms (λ i. node_sending n i d))
@@ -74,12 +74,12 @@ down_grows : (s : Setting) (c : Counts) (l d t : ℕ) → IsSetting s → IsFron
 down_grows s c l d t v f x m =
     let now : IsFront s c t = earlier_front s c (t + 1) t f (omega arith) in
     let step : Leaves s c (down_of l) t (link_sending s c l t) = link_leaves s c l t v x (f.steps (s.head l) t (v.network.head_is_node l x) (omega arith)) in
-    omega (arith, step.within d m, le-sum_below s.destinations (link_sending s c l t) d m, link_sent s c t l v now x, v.small.capacities l x)
+    omega (arith, step.within d m, le-sum_below s.destinations (link_sending s c l t) d m, link_sent s c t l v now x, v.small.capacities l t x)
 
 up_grows : (s : Setting) (c : Counts) (l d t : ℕ) → IsSetting s → IsFront s c (t + 1) → l < s.links → d < s.destinations → c (up_of l) d (t + 1) ≤ c (up_of l) d t + 160000
 up_grows s c l d t v f x m =
     let step : Enters s c l t = link_enters s c l t v x (f.steps (s.tail l) t (v.network.tail_is_node l x) (omega arith)) in
-    omega (arith, term_rises s.destinations (λ k. c (up_of l) k t) (λ k. c (up_of l) k (t + 1)) (receiving s c l t) d m step.rises step.within, v.small.capacities l x)
+    omega (arith, term_rises s.destinations (λ k. c (up_of l) k t) (λ k. c (up_of l) k (t + 1)) (receiving s c l t) d m step.rises step.within, v.small.capacities l t x)
 
 dep_grows : (s : Setting) (c : Counts) (u d t : ℕ) → IsSetting s → IsFront s c (t + 1) → t < s.slots → u < s.nodes → 0 < s.outs u → d < s.destinations → c (dep_of s u) d (t + 1) ≤ c (dep_of s u) d t + 160000
 dep_grows s c u d t v f y x some m =
@@ -141,10 +141,10 @@ in_range_holds s c t u v f y x =
       few_arms = omega (arith, v.small.few_ins u x);
       few_outs = v.small.few_outs u x;
       few_destinations = v.small.few_destinations;
-      some_capacity = λ i l. omega (arith, (pair_parts s c u t).capacity i l, some_arm_capacity s u i v x);
-      capacities = λ i l. omega (arith, (pair_parts s c u t).capacity i l, arm_capacity_small s u i v x);
+      some_capacity = λ i l. omega (arith, (pair_parts s c u t).capacity i l, some_arm_capacity s u t i v x);
+      capacities = λ i l. omega (arith, (pair_parts s c u t).capacity i l, arm_capacity_small s u t i v x);
       within_capacity = λ i l. omega (arith, sent_all s c t u i l, (pair_parts s c u t).capacity i l, arm_sent s c t u i v f y x l);
-      supplies = λ j l. omega (arith, (pair_parts s c u t).supply j l, v.small.capacities (s.out_link u j) (v.network.out_link_is_link u j x l));
+      supplies = λ j l. omega (arith, (pair_parts s c u t).supply j l, v.small.capacities (s.out_link u j) t (v.network.out_link_is_link u j x l));
       weights = λ d j m l. omega (arith, (pair_parts s c u t).weight d j m l, v.small.weights u d t j x m y l);
       left_counts = λ i d l m. omega (arith, (pair_parts s c u t).left i d l m, arm_count_small s c t u i d v f (omega arith) x l m);
       entered_counts = λ j d l m. omega (arith, (pair_parts s c u t).entered j d l m, ((counts_small_holds s c v t f (omega arith) d m).0 (s.out_link u j) (v.network.out_link_is_link u j x l)).0);

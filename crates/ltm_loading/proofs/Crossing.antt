@@ -48,8 +48,8 @@ pub totals_small_holds : TotalsSmall
 totals_small_holds s c v t f y =
     let to : (k : ℕ) → k < t → IsFront s c (k + 1) = λ k l. earlier_front s c t (k + 1) f (omega arith) in (
       λ l x. (
-        total_grows s c (up_of l) t f (omega arith) (λ k z. omega (arith, ((within_capacity_holds s c k v (to k z) (omega arith)).0 l x).0, v.small.capacities l x)),
-        total_grows s c (down_of l) t f (omega arith) (λ k z. omega (arith, ((within_capacity_holds s c k v (to k z) (omega arith)).0 l x).1, v.small.capacities l x)),
+        total_grows s c (up_of l) t f (omega arith) (λ k z. omega (arith, ((within_capacity_holds s c k v (to k z) (omega arith)).0 l x).0, v.small.capacities l k x)),
+        total_grows s c (down_of l) t f (omega arith) (λ k z. omega (arith, ((within_capacity_holds s c k v (to k z) (omega arith)).0 l x).1, v.small.capacities l k x)),
       ),
       λ u x some. total_grows s c (dep_of s u) t f (omega arith) (λ k z. omega (arith, (within_capacity_holds s c k v (to k z) (omega arith)).1 u x some, v.small.origin_capacity)),
     )

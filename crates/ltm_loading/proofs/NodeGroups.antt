@@ -7,12 +7,12 @@ use Rattle.ltm_curve.specs.Counts.{Counts}
 use Rattle.ltm_node.specs.Shape.{counts_width}
 use Rattle.ltm_loading.specs.Setting.{Setting, IsSetting}
 use Rattle.ltm_loading.specs.Groups.{up_of, down_of, dep_of, arr_of}
-use Rattle.ltm_loading.specs.Pairs.{arms_of, arm_group, arrived_by, shape_at, count_row}
+use Rattle.ltm_loading.specs.Pairs.{arms_of, arm_group, shape_at, count_row}
 use Rattle.ltm_loading.specs.NextPair.{IsOf}
 use Rattle.ltm_loading.specs.NodeGroups.{group_count, node_group, IsRowOf, GroupsByRow, GroupsAreSet}
 use Rattle.ltm_loading.specs.Uncounted.{outputs_at}
 use Rattle.ltm_loading.proofs.Picks.{pick_first, pick_second}
-use Rattle.ltm_loading.proofs.Rows.{HasCounts, next_counts}
+use Rattle.ltm_loading.proofs.Rows.{next_counts}
 use Rattle.ltm_loading.proofs.SameRows.{counts_by_place_holds}
 
 -- the groups of the arms, and behind them those of the out-links

@@ -46,7 +46,7 @@ entered_small s c t u j d row v f y x step l m =
           (λ e z. entered_grows (pair_inputs s c u t) (outputs_of s u row) j e step l z) (supply_kept_holds (pair_inputs s c u t) (outputs_of s u row) step j l),
       (pair_parts s c u t).entered j d l m,
       (pair_parts s c u t).supply j l,
-      v.small.capacities (s.out_link u j) link,
+      v.small.capacities (s.out_link u j) t link,
       ((counts_small_holds s c v t f (omega arith) d m).0 (s.out_link u j) link).0,
     )
 

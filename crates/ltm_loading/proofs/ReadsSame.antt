@@ -69,10 +69,10 @@ inputs_by_parts_holds r s a b u t h =
     let e5 : list_below (r.outs u) (λ j. receiving r a (r.out_link u j) t) ≡ list_below (s.outs u) (λ j. receiving s b (s.out_link u j) t) =
     list_over (r.outs u) (s.outs u) (λ j. receiving r a (r.out_link u j) t) (λ j. receiving s b (s.out_link u j) t) outs
     (λ j x. ap (λ z. receiving r a z t) (out_link j) ∙ h.supply j x) in
-    let e6 : list_below (arms_of r u) (arm_capacity r u) ≡ list_below (arms_of s u) (arm_capacity s u) =
-    list_over (arms_of r u) (arms_of s u) (arm_capacity r u) (arm_capacity s u) arms (λ i x.
-    pick_arm i (r.ins u) (s.ins u) (r.capacity (r.in_link u i)) r.origin_capacity (s.capacity (s.in_link u i)) s.origin_capacity ins
-    (λ low. ap r.capacity (in_link i) ∙ h.link_capacity i low) (λ high. h.origin_capacity)) in
+    let e6 : list_below (arms_of r u) (arm_capacity r u t) ≡ list_below (arms_of s u) (arm_capacity s u t) =
+    list_over (arms_of r u) (arms_of s u) (arm_capacity r u t) (arm_capacity s u t) arms (λ i x.
+    pick_arm i (r.ins u) (s.ins u) (r.capacity (r.in_link u i) t) r.origin_capacity (s.capacity (s.in_link u i) t) s.origin_capacity ins
+    (λ low. ap (λ l. r.capacity l t) (in_link i) ∙ h.link_capacity i low) (λ high. h.origin_capacity)) in
     let e7 : grid r.destinations (r.outs u) (λ d j. r.weight u d t j) ≡ grid s.destinations (s.outs u) (λ d j. s.weight u d t j) =
     grid_over r.destinations (r.outs u) s.destinations (s.outs u) (λ d j. r.weight u d t j) (λ d j. s.weight u d t j) ends outs h.weight in cc
 
@@ -83,20 +83,20 @@ earlier_over a b h h' t delay delay' p q r = rw (p, q, r) refl
 total_over : (r s : Setting) (rows : ℕ → ℕ → ℕ) → SameNetwork r s → total r.destinations rows ≡ total s.destinations rows
 total_over r s rows same = ap (λ m. total m rows) same.destinations
 
-goal_over : (r s : Setting) (c : Counts) (l t : ℕ) → SameNetwork r s → r.step ≡ s.step → r.free_time l ≡ s.free_time l → r.capacity l ≡ s.capacity l → link_goal r c l t ≡ link_goal s c l t
+goal_over : (r s : Setting) (c : Counts) (l t : ℕ) → SameNetwork r s → r.step ≡ s.step → r.free_time l ≡ s.free_time l → r.capacity l t ≡ s.capacity l t → link_goal r c l t ≡ link_goal s c l t
 goal_over r s c l t same step free cap =
-    ap (λ (f : ℕ → ℕ). min (earlier f r.step t (r.free_time l)) (total r.destinations (c (down_of l)) t + r.capacity l)) (total_over r s (c (up_of l)) same)
-    ∙ (ap (λ z. min z (total r.destinations (c (down_of l)) t + r.capacity l))
+    ap (λ (f : ℕ → ℕ). min (earlier f r.step t (r.free_time l)) (total r.destinations (c (down_of l)) t + r.capacity l t)) (total_over r s (c (up_of l)) same)
+    ∙ (ap (λ z. min z (total r.destinations (c (down_of l)) t + r.capacity l t))
     (earlier_over (total s.destinations (c (up_of l))) (total s.destinations (c (up_of l))) r.step s.step t (r.free_time l) (s.free_time l) refl step free)
-    ∙ (ap (λ (f : ℕ → ℕ). min (earlier (total s.destinations (c (up_of l))) s.step t (s.free_time l)) (f t + r.capacity l)) (total_over r s (c (down_of l)) same)
+    ∙ (ap (λ (f : ℕ → ℕ). min (earlier (total s.destinations (c (up_of l))) s.step t (s.free_time l)) (f t + r.capacity l t)) (total_over r s (c (down_of l)) same)
     ∙ ap (λ z. min (earlier (total s.destinations (c (up_of l))) s.step t (s.free_time l)) (total s.destinations (c (down_of l)) t + z)) cap))
 
-first_over : (r s : Setting) (c : Counts) (l t : ℕ) → SameNetwork r s → r.step ≡ s.step → r.free_time l ≡ s.free_time l → r.capacity l ≡ s.capacity l → (d : ℕ) → link_first r c l t d ≡ link_first s c l t d
+first_over : (r s : Setting) (c : Counts) (l t : ℕ) → SameNetwork r s → r.step ≡ s.step → r.free_time l ≡ s.free_time l → r.capacity l t ≡ s.capacity l t → (d : ℕ) → link_first r c l t d ≡ link_first s c l t d
 first_over r s c l t same step free cap d =
     ap (λ m. first_units m (c (up_of l)) (link_goal r c l t) t d - c (down_of l) d t) same.destinations
     ∙ ap (λ n. first_units s.destinations (c (up_of l)) n t d - c (down_of l) d t) (goal_over r s c l t same step free cap)
 
-sending_over : (r s : Setting) (c : Counts) (l t d : ℕ) → SameNetwork r s → r.step ≡ s.step → r.free_time l ≡ s.free_time l → r.capacity l ≡ s.capacity l → r.exit_limit l t ≡ s.exit_limit l t →
+sending_over : (r s : Setting) (c : Counts) (l t d : ℕ) → SameNetwork r s → r.step ≡ s.step → r.free_time l ≡ s.free_time l → r.capacity l t ≡ s.capacity l t → r.exit_limit l t ≡ s.exit_limit l t →
     link_sending r c l t d ≡ link_sending s c l t d
 sending_over r s c l t d same step free cap exit =
     ap (λ z. limited z (sum_below r.destinations (link_first r c l t)) (link_first r c l t d)) exit
@@ -104,7 +104,7 @@ sending_over r s c l t d same step free cap exit =
     ∙ (ap (λ z. limited (s.exit_limit l t) z (link_first r c l t d)) (sum_below-same s.destinations (link_first r c l t) (link_first s c l t) (λ e y. first_over r s c l t same step free cap e))
     ∙ ap (λ z. limited (s.exit_limit l t) (sum_below s.destinations (link_first s c l t)) z) (first_over r s c l t same step free cap d)))
 
-receiving_over : (r s : Setting) (c : Counts) (l t : ℕ) → SameNetwork r s → r.step ≡ s.step → r.wave_time l ≡ s.wave_time l → r.capacity l ≡ s.capacity l → r.storage l ≡ s.storage l → r.entry_limit l t ≡ s.entry_limit l t →
+receiving_over : (r s : Setting) (c : Counts) (l t : ℕ) → SameNetwork r s → r.step ≡ s.step → r.wave_time l ≡ s.wave_time l → r.capacity l t ≡ s.capacity l t → r.storage l ≡ s.storage l → r.entry_limit l t ≡ s.entry_limit l t →
     receiving r c l t ≡ receiving s c l t
 receiving_over r s c l t same step wave cap room entry =
     let ago : earlier (total r.destinations (c (down_of l))) r.step t (r.wave_time l) ≡ earlier (total s.destinations (c (down_of l))) s.step t (s.wave_time l) =

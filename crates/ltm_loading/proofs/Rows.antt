@@ -97,8 +97,8 @@ has_parts a o m send left enter come get cap weigh =
     }
 
 -- the inputs of a pair by place
-pub pair_parts : (s : Setting) (c : Counts) (u t : ℕ) → HasParts (pair_row s c u t) (arms_of s u) (s.outs u) s.destinations (sending s c u t) (λ i d. c (arm_group s u i) d t) (λ j d. c (up_of (s.out_link u j)) d t) (arrived_by s c (s.own u) t) (λ j. receiving s c (s.out_link u j) t) (arm_capacity s u) (λ d j. s.weight u d t j)
-pair_parts s c u t = has_parts (arms_of s u) (s.outs u) s.destinations (sending s c u t) (λ i d. c (arm_group s u i) d t) (λ j d. c (up_of (s.out_link u j)) d t) (arrived_by s c (s.own u) t) (λ j. receiving s c (s.out_link u j) t) (arm_capacity s u) (λ d j. s.weight u d t j)
+pub pair_parts : (s : Setting) (c : Counts) (u t : ℕ) → HasParts (pair_row s c u t) (arms_of s u) (s.outs u) s.destinations (sending s c u t) (λ i d. c (arm_group s u i) d t) (λ j d. c (up_of (s.out_link u j)) d t) (arrived_by s c (s.own u) t) (λ j. receiving s c (s.out_link u j) t) (arm_capacity s u t) (λ d j. s.weight u d t j)
+pair_parts s c u t = has_parts (arms_of s u) (s.outs u) s.destinations (sending s c u t) (λ i d. c (arm_group s u i) d t) (λ j d. c (up_of (s.out_link u j)) d t) (arrived_by s c (s.own u) t) (λ j. receiving s c (s.out_link u j) t) (arm_capacity s u t) (λ d j. s.weight u d t j)
 
 -- the counts that a pair sets, by place
 pub record HasCounts (row : List ℕ) (a o m : ℕ) (gone enter : ℕ → ℕ → ℕ) (come : ℕ) : Type 0 where

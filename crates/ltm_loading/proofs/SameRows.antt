@@ -98,7 +98,7 @@ length-pair_row s c u t =
     let p3 : List ℕ = grid (s.outs u) s.destinations (λ j d. c (up_of (s.out_link u j)) d t) in
     let p4 : List ℕ = list_below 1 (λ k. arrived_by s c (s.own u) t) in
     let p5 : List ℕ = list_below (s.outs u) (λ j. receiving s c (s.out_link u j) t) in
-    let p6 : List ℕ = list_below (arms_of s u) (arm_capacity s u) in
+    let p6 : List ℕ = list_below (arms_of s u) (arm_capacity s u t) in
     let p7 : List ℕ = grid s.destinations (s.outs u) (λ d j. s.weight u d t j) in
     omega (
       arith,
@@ -113,7 +113,7 @@ length-pair_row s c u t =
       length-grid (s.outs u) s.destinations (λ j d. c (up_of (s.out_link u j)) d t),
       length-list_below 1 (λ k. arrived_by s c (s.own u) t),
       length-list_below (s.outs u) (λ j. receiving s c (s.out_link u j) t),
-      length-list_below (arms_of s u) (arm_capacity s u),
+      length-list_below (arms_of s u) (arm_capacity s u t),
       length-grid s.destinations (s.outs u) (λ d j. s.weight u d t j),
     )
 
@@ -146,13 +146,13 @@ is_pair_inputs : (s : Setting) (c : Counts) (u t : ℕ) (n : Inputs) → n.shape
 is_pair_inputs s c u t n e long h =
     let w : length n.row ≡ width (shape_at s u) = long ∙ ap width e in
     let g : HoldsInputs s c u t (record { shape = shape_at s u; row = n.row; room = n.room }) = inputs_parts s c u t n e h in
-    let parts : HasParts n.row (arms_of s u) (s.outs u) s.destinations (sending s c u t) (λ i d. c (arm_group s u i) d t) (λ j d. c (up_of (s.out_link u j)) d t) (arrived_by s c (s.own u) t) (λ j. receiving s c (s.out_link u j) t) (arm_capacity s u) (λ d j. s.weight u d t j) =
+    let parts : HasParts n.row (arms_of s u) (s.outs u) s.destinations (sending s c u t) (λ i d. c (arm_group s u i) d t) (λ j d. c (up_of (s.out_link u j)) d t) (arrived_by s c (s.own u) t) (λ j. receiving s c (s.out_link u j) t) (arm_capacity s u t) (λ d j. s.weight u d t j) =
     record { sending = g.sending; left = g.left; entered = g.entered; arrived = g.arrived; supply = g.supply; capacity = g.capacity; weight = g.weight } in
     record {
       shape = e;
       row =
           same_parts n.row (pair_row s c u t) (arms_of s u) (s.outs u) s.destinations (sending s c u t) (λ i d. c (arm_group s u i) d t) (λ j d. c (up_of (s.out_link u j)) d t) (arrived_by s c (s.own u) t)
-          (λ j. receiving s c (s.out_link u j) t) (arm_capacity s u) (λ d j. s.weight u d t j) parts (pair_parts s c u t) (omega arith) (omega (arith, length-pair_row s c u t));
+          (λ j. receiving s c (s.out_link u j) t) (arm_capacity s u t) (λ d j. s.weight u d t j) parts (pair_parts s c u t) (omega arith) (omega (arith, length-pair_row s c u t));
     }
 
 pub inputs_by_place_holds : InputsByPlace

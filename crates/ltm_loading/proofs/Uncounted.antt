@@ -21,9 +21,9 @@ use Rattle.ltm_loading.proofs.Setters.{same_step}
 use Rattle.ltm_loading.proofs.Bounds.{in_range_holds}
 
 pub uncounted_parts : (s : Setting) (c : Counts) (u t : ℕ) →
-    HasParts (uncounted_row s c u t) (arms_of s u) (s.outs u) s.destinations (sending s c u t) (λ i d. 0) (λ j d. 0) 0 (λ j. receiving s c (s.out_link u j) t) (arm_capacity s u) (λ d j. s.weight u d t j)
+    HasParts (uncounted_row s c u t) (arms_of s u) (s.outs u) s.destinations (sending s c u t) (λ i d. 0) (λ j d. 0) 0 (λ j. receiving s c (s.out_link u j) t) (arm_capacity s u t) (λ d j. s.weight u d t j)
 uncounted_parts s c u t =
-    has_parts (arms_of s u) (s.outs u) s.destinations (sending s c u t) (λ i d. 0) (λ j d. 0) 0 (λ j. receiving s c (s.out_link u j) t) (arm_capacity s u) (λ d j. s.weight u d t j)
+    has_parts (arms_of s u) (s.outs u) s.destinations (sending s c u t) (λ i d. 0) (λ j d. 0) 0 (λ j. receiving s c (s.out_link u j) t) (arm_capacity s u t) (λ d j. s.weight u d t j)
 
 length-uncounted_row : (s : Setting) (c : Counts) (u t : ℕ) → length (uncounted_row s c u t) ≡ length (pair_row s c u t)
 length-uncounted_row s c u t =
@@ -32,7 +32,7 @@ length-uncounted_row s c u t =
     let p3 : List ℕ = grid (s.outs u) s.destinations (λ j d. 0) in
     let p4 : List ℕ = list_below 1 (λ k. 0) in
     let p5 : List ℕ = list_below (s.outs u) (λ j. receiving s c (s.out_link u j) t) in
-    let p6 : List ℕ = list_below (arms_of s u) (arm_capacity s u) in
+    let p6 : List ℕ = list_below (arms_of s u) (arm_capacity s u t) in
     let p7 : List ℕ = grid s.destinations (s.outs u) (λ d j. s.weight u d t j) in
     omega (
       arith,
@@ -48,7 +48,7 @@ length-uncounted_row s c u t =
       length-grid (s.outs u) s.destinations (λ j d. 0),
       length-list_below 1 (λ k. 0),
       length-list_below (s.outs u) (λ j. receiving s c (s.out_link u j) t),
-      length-list_below (arms_of s u) (arm_capacity s u),
+      length-list_below (arms_of s u) (arm_capacity s u t),
       length-grid s.destinations (s.outs u) (λ d j. s.weight u d t j),
     )
 

@@ -17,7 +17,7 @@ pub record HoldsInputs (s : Setting) (c : Counts) (u t : ℕ) (n : Inputs) : Typ
   pub entered : (j d : ℕ) → j < s.outs u → d < s.destinations → entered n j d ≡ c (up_of (s.out_link u j)) d t
   pub arrived : arrived n ≡ arrived_by s c (s.own u) t
   pub supply : (j : ℕ) → j < s.outs u → supply n j ≡ receiving s c (s.out_link u j) t
-  pub capacity : (i : ℕ) → i < arms_of s u → capacity n i ≡ arm_capacity s u i
+  pub capacity : (i : ℕ) → i < arms_of s u → capacity n i ≡ arm_capacity s u t i
   pub weight : (d j : ℕ) → d < s.destinations → j < s.outs u → weight n d j ≡ s.weight u d t j
 
 -- outputs of the node's shape hold its counts at a boundary

@@ -14,7 +14,7 @@ earlier counts step slot delay =
 -- how many of all units that entered a link may have left it by the end of a slot
 abbrev pub link_goal : Setting → Counts → ℕ → ℕ → ℕ
 link_goal s c l t =
-    min (earlier (total s.destinations (c (up_of l))) s.step t (s.free_time l)) (total s.destinations (c (down_of l)) t + s.capacity l)
+    min (earlier (total s.destinations (c (up_of l))) s.step t (s.free_time l)) (total s.destinations (c (down_of l)) t + s.capacity l t)
 
 -- the position of a slot for a link: the last boundary by which no more has entered the link than may have left it by the
 -- slot's end
@@ -44,5 +44,5 @@ origin_sending s c u t d = first_units s.destinations (s.produced u) (origin_goa
 -- what a link can take: its capacity, its entry limit, and the room that it has had since a wave ago
 abbrev pub receiving : Setting → Counts → ℕ → ℕ → ℕ
 receiving s c l t =
-    min (s.capacity l) (min (s.entry_limit l t)
+    min (s.capacity l t) (min (s.entry_limit l t)
     (earlier (total s.destinations (c (down_of l))) s.step t (s.wave_time l) + s.storage l - total s.destinations (c (up_of l)) t))

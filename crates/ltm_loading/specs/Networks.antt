@@ -20,10 +20,10 @@ pub record SameFor (r s : Setting) (u t : ℕ) : Type 0 where
   pub network : SameNetwork r s
   pub step : r.step ≡ s.step
   pub free_time : (i : ℕ) → i < s.ins u → r.free_time (s.in_link u i) ≡ s.free_time (s.in_link u i)
-  pub in_capacity : (i : ℕ) → i < s.ins u → r.capacity (s.in_link u i) ≡ s.capacity (s.in_link u i)
+  pub in_capacity : (i : ℕ) → i < s.ins u → r.capacity (s.in_link u i) t ≡ s.capacity (s.in_link u i) t
   pub exit_limit : (i : ℕ) → i < s.ins u → r.exit_limit (s.in_link u i) t ≡ s.exit_limit (s.in_link u i) t
   pub wave_time : (j : ℕ) → j < s.outs u → r.wave_time (s.out_link u j) ≡ s.wave_time (s.out_link u j)
-  pub out_capacity : (j : ℕ) → j < s.outs u → r.capacity (s.out_link u j) ≡ s.capacity (s.out_link u j)
+  pub out_capacity : (j : ℕ) → j < s.outs u → r.capacity (s.out_link u j) t ≡ s.capacity (s.out_link u j) t
   pub storage : (j : ℕ) → j < s.outs u → r.storage (s.out_link u j) ≡ s.storage (s.out_link u j)
   pub entry_limit : (j : ℕ) → j < s.outs u → r.entry_limit (s.out_link u j) t ≡ s.entry_limit (s.out_link u j) t
   pub origin_capacity : r.origin_capacity ≡ s.origin_capacity

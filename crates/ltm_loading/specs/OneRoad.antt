@@ -29,7 +29,7 @@ one_road limit = record {
   out_place = λ l. 0;
   free_time = λ l. 2000;
   wave_time = λ l. 4000;
-  capacity = λ l. 500;
+  capacity = λ l t. 500;
   storage = λ l. 3000;
   entry_limit = λ l t. if t == 0 then limit else 32000;
   exit_limit = λ l t. 32000;

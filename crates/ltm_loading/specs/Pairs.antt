@@ -25,8 +25,8 @@ sending s c u t i d = if nat_lt i (s.ins u) then link_sending s c (s.in_link u i
 abbrev pub arm_group : Setting → ℕ → ℕ → ℕ
 arm_group s u i = if nat_lt i (s.ins u) then down_of (s.in_link u i) else dep_of s u
 
-abbrev pub arm_capacity : Setting → ℕ → ℕ → ℕ
-arm_capacity s u i = if nat_lt i (s.ins u) then s.capacity (s.in_link u i) else s.origin_capacity
+abbrev pub arm_capacity : Setting → ℕ → ℕ → ℕ → ℕ
+arm_capacity s u t i = if nat_lt i (s.ins u) then s.capacity (s.in_link u i) t else s.origin_capacity
 
 -- what has arrived at a node that is a destination
 abbrev pub arrived_by : Setting → Counts → Option ℕ → ℕ → ℕ
@@ -46,7 +46,7 @@ pair_row s c u t =
     ++ (grid (s.outs u) s.destinations (λ j d. c (up_of (s.out_link u j)) d t)
     ++ (list_below 1 (λ k. arrived_by s c (s.own u) t)
     ++ (list_below (s.outs u) (λ j. receiving s c (s.out_link u j) t)
-    ++ (list_below (arms_of s u) (arm_capacity s u)
+    ++ (list_below (arms_of s u) (arm_capacity s u t)
     ++ grid s.destinations (s.outs u) (λ d j. s.weight u d t j))))))
 
 abbrev pub pair_inputs : Setting → Counts → ℕ → ℕ → Inputs

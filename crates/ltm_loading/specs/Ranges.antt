@@ -28,8 +28,8 @@ abbrev pub WithinCapacity : Type 0
 WithinCapacity =
     (s : Setting) (c : Counts) (t : ℕ) → IsSetting s → IsFront s c (t + 1) → t < s.slots →
     ((l : ℕ) → l < s.links →
-    (total s.destinations (c (up_of l)) (t + 1) ≤ total s.destinations (c (up_of l)) t + s.capacity l)
-    × (total s.destinations (c (down_of l)) (t + 1) ≤ total s.destinations (c (down_of l)) t + s.capacity l))
+    (total s.destinations (c (up_of l)) (t + 1) ≤ total s.destinations (c (up_of l)) t + s.capacity l t)
+    × (total s.destinations (c (down_of l)) (t + 1) ≤ total s.destinations (c (down_of l)) t + s.capacity l t))
     × ((u : ℕ) → u < s.nodes → 0 < s.outs u → total s.destinations (c (dep_of s u)) (t + 1) ≤ total s.destinations (c (dep_of s u)) t + s.origin_capacity)
 
 -- so what has entered a link, has left it or has left an origin is at most 32,000 units for each slot so far

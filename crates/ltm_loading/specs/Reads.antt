@@ -43,7 +43,7 @@ pub record ReadsSame (r s : Setting) (a b : Counts) (u t : ℕ) : Type 0 where
   pub entered : (j d : ℕ) → j < s.outs u → d < s.destinations → a (up_of (s.out_link u j)) d t ≡ b (up_of (s.out_link u j)) d t
   pub arrived : arrived_by s a (s.own u) t ≡ arrived_by s b (s.own u) t
   pub supply : (j : ℕ) → j < s.outs u → receiving r a (s.out_link u j) t ≡ receiving s b (s.out_link u j) t
-  pub link_capacity : (i : ℕ) → i < s.ins u → r.capacity (s.in_link u i) ≡ s.capacity (s.in_link u i)
+  pub link_capacity : (i : ℕ) → i < s.ins u → r.capacity (s.in_link u i) t ≡ s.capacity (s.in_link u i) t
   pub origin_capacity : r.origin_capacity ≡ s.origin_capacity
   pub weight : (d j : ℕ) → d < s.destinations → j < s.outs u → r.weight u d t j ≡ s.weight u d t j
 

@@ -1,5 +1,5 @@
 -- What a loading reads of a case.
-use Rattle.std.specs.Prelude.{◌≡◌, ℕ, ◌<◌, ◌≤◌, Bool, Option, Some}
+use Rattle.std.specs.Prelude.{◌≡◌, ℕ, ◌+◌, ◌<◌, ◌≤◌, Bool, Option, Some}
 use Rattle.ltm_curve.specs.First.{RowsRise}
 use Rattle.ltm_units.specs.Bounds.{most_in_slot, most_slots, most_destinations}
 
@@ -23,10 +23,10 @@ pub record Setting : Type 0 where
   pub outs : ℕ → ℕ
   pub out_link : ℕ → ℕ → ℕ
   pub out_place : ℕ → ℕ
-  -- the limits of a link; those of entry and exit are for each slot
+  -- the limits of a link; capacity and the limits of entry and exit are for each slot
   pub free_time : ℕ → ℕ
   pub wave_time : ℕ → ℕ
-  pub capacity : ℕ → ℕ
+  pub capacity : ℕ → ℕ → ℕ
   pub storage : ℕ → ℕ
   pub entry_limit : ℕ → ℕ → ℕ
   pub exit_limit : ℕ → ℕ → ℕ
@@ -64,17 +64,18 @@ pub record IsSmall (s : Setting) : Type 0 where
   pub few_ins : (u : ℕ) → u < s.nodes → s.ins u ≤ 4
   pub few_outs : (u : ℕ) → u < s.nodes → s.outs u ≤ 4
   pub few_destinations : s.destinations ≤ most_destinations
-  pub capacities : (l : ℕ) → l < s.links → s.capacity l ≤ most_in_slot
+  pub capacities : (l t : ℕ) → l < s.links → s.capacity l t ≤ most_in_slot
   pub origin_capacity : s.origin_capacity ≤ most_in_slot
   pub weights : (u d t j : ℕ) → u < s.nodes → d < s.destinations → t < s.slots → j < s.outs u → s.weight u d t j ≤ 4294967295
 
--- a network whose links take at least a step to pass, freely and for a wave, and let something through, and origins
--- that produce from nothing and never take back
+-- a network whose links take at least a step to pass, freely and for a wave, and let something through, in no slot more than a
+-- unit above any other, and origins that produce from nothing and never take back
 pub record IsSetting (s : Setting) : Type 0 where
   pub network : IsNetwork s
   pub small : IsSmall s
   pub some_step : 0 < s.step
-  pub some_capacity : (l : ℕ) → l < s.links → 0 < s.capacity l
+  pub some_capacity : (l t : ℕ) → l < s.links → 0 < s.capacity l t
+  pub even_capacity : (l t k : ℕ) → l < s.links → s.capacity l t ≤ s.capacity l k + 1
   pub some_origin_capacity : 0 < s.origin_capacity
   pub free_time : (l : ℕ) → l < s.links → s.step ≤ s.free_time l
   pub wave_time : (l : ℕ) → l < s.links → s.step ≤ s.wave_time l

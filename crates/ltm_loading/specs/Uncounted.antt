@@ -20,7 +20,7 @@ uncounted_row s c u t =
     ++ (grid (s.outs u) s.destinations (λ j d. 0)
     ++ (list_below 1 (λ k. 0)
     ++ (list_below (s.outs u) (λ j. receiving s c (s.out_link u j) t)
-    ++ (list_below (arms_of s u) (arm_capacity s u)
+    ++ (list_below (arms_of s u) (arm_capacity s u t)
     ++ grid s.destinations (s.outs u) (λ d j. s.weight u d t j))))))
 
 -- these inputs of a pair

@@ -19,14 +19,14 @@ network_made m (r ∷ list) = network_made (with_road m r) list
 
 pub still_bare : (m : Making) (list : List Road) → TakesLinks m.scenario → TakesLinks (with_roads m list).scenario
 still_bare m [] h = h
-still_bare m (r ∷ list) h = still_bare (with_road m r) list (record { no_splits = h.no_splits; step = h.step })
+still_bare m (r ∷ list) h = still_bare (with_road m r) list (record { no_splits = h.no_splits; step = h.step; carry = h.carry })
 
 pub one_road_more : (m : Making) (list : List Road) (r : Road) → with_roads m (list ++ r ∷ []) ≡ with_road (with_roads m list) r
 one_road_more m [] r = refl
 one_road_more m (x ∷ list) r = one_road_more (with_road m x) list r
 
 pub bare_at_first : (s : ScenarioData) → s ≡ empty_scenario made_setup → TakesLinks s
-bare_at_first s e = subst TakesLinks (sym e) (record { no_splits = refl; step = refl })
+bare_at_first s e = subst TakesLinks (sym e) (record { no_splits = refl; step = refl; carry = refl })
 
 -- its links lead along them
 pub made_along : (m : Making) (list : List Road) → m.scenario ≡ empty_scenario made_setup → IsAlong (with_roads m list).scenario.network list

@@ -1,5 +1,5 @@
 -- The links of a made case, one for each road of its grid.
-use Rattle.std.specs.Prelude.{ℕ, ◌≡◌, ◌+◌, ◌*◌, ◌%◌, List, [], ◌∷◌, length}
+use Rattle.std.specs.Prelude.{ℕ, ◌≡◌, ◌+◌, ◌*◌, ◌%◌, false, List, [], ◌∷◌, length}
 use Rattle.ltm_diagram.specs.declared.diagram.Diagram.{Diagram}
 use Rattle.ltm_network.specs.Network.{NetworkData, network_linked}
 use Rattle.ltm_scenario.specs.declared.setup.Setup.{Setup}
@@ -32,10 +32,11 @@ abbrev pub with_roads : Making → List Road → Making
 with_roads m [] = m
 with_roads m (road ∷ roads) = with_roads (with_road m road) roads
 
--- links may be added: there is no split row yet, and a slot has 10 seconds
+-- links may be added: there is no split row yet, a slot has 10 seconds, and nothing of a capacity is carried
 pub record TakesLinks (s : ScenarioData) : Type 0 where
   pub no_splits : s.splits ≡ []
   pub step : s.setup.step.0 ≡ 10000
+  pub carry : s.setup.carry ≡ false
 
 -- 60 slots of 10 seconds, and 32 vehicles a slot from an origin
 abbrev pub made_setup : Setup

@@ -18,6 +18,7 @@ use Rattle.ltm_splits.specs.Replaced.{replaced}
 use Rattle.ltm_limits.specs.Limits.{with_limit, AreWhole}
 use Rattle.ltm_scenario.specs.Data.{ScenarioData}
 use Rattle.ltm_scenario.specs.Horizon.{with_slots}
+use Rattle.ltm_diagram.specs.Passing.{capacity_in}
 use Rattle.ltm_setting.specs.Setting.{set_by, limits_at, produced_by, setting_of}
 use Rattle.ltm_loading.specs.Networks.{SameFor}
 use Rattle.ltm_pairs.specs.Reaches.{reach, lies_in}
@@ -153,7 +154,7 @@ slice_get-set_other ds i j d apart = elim (cases_lt j (length ds)) [
 ]
 
 limits_stay : (s : ScenarioData) (link : ℕ) (diagram : Diagram) (l : ℕ) → l ≢ link → limits_at (record s { diagrams = slice_set s.diagrams link diagram }) l ≡ limits_at s l
-limits_stay s link diagram l apart = ap (λ (o : Option Diagram). set_by s.setup.step.0 o) (slice_get-set_other s.diagrams link l diagram apart)
+limits_stay s link diagram l apart = ap (λ (o : Option Diagram). set_by s.setup.step.0 s.setup.carry o) (slice_get-set_other s.diagrams link l diagram apart)
 
 pub by_diagram : (s : ScenarioData) (link : ℕ) (diagram : Diagram) (u t : ℕ) → (tail_of s.network link ≡ u → ⊥) → (head_of s.network link ≡ u → ⊥) →
     SameFor (setting_of (record s { diagrams = slice_set s.diagrams link diagram })) (setting_of s) u t
@@ -167,10 +168,10 @@ by_diagram s link diagram u t tail head =
       network = record { nodes = refl; links = refl; destinations = refl; ins = refl; in_link = refl; outs = refl; out_link = refl; own = refl; by_turn = refl };
       step = refl;
       free_time = λ i x. ap (λ z. z.free_ms) (limits_stay s link diagram (in_link s.network u i) (enters i x));
-      in_capacity = λ i x. ap (λ z. z.capacity) (limits_stay s link diagram (in_link s.network u i) (enters i x));
+      in_capacity = λ i x. ap (λ z. capacity_in z t) (limits_stay s link diagram (in_link s.network u i) (enters i x));
       exit_limit = λ i x. refl;
       wave_time = λ j x. ap (λ z. z.wave_ms) (limits_stay s link diagram (out_link s.network u j) (leaves j x));
-      out_capacity = λ j x. ap (λ z. z.capacity) (limits_stay s link diagram (out_link s.network u j) (leaves j x));
+      out_capacity = λ j x. ap (λ z. capacity_in z t) (limits_stay s link diagram (out_link s.network u j) (leaves j x));
       storage = λ j x. ap (λ z. z.storage) (limits_stay s link diagram (out_link s.network u j) (leaves j x));
       entry_limit = λ j x. refl;
       origin_capacity = refl;

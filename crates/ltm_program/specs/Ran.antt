@@ -43,7 +43,7 @@ ReadsInput (Some (command.Session workers)) = Unit {0}
 ReadsInput (Some (command.View viewers)) = Unit {0}
 ReadsInput c = ⊥
 
--- a command starts threads
+-- a command cannot do without threads
 abbrev pub needs_threads : Option Command → Bool
 needs_threads (Some (command.Session workers)) = nat_lt 0 workers
 needs_threads (Some (command.View viewers)) = true

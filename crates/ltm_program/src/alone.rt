@@ -1,16 +1,17 @@
-//! The top call without threads: what the words ask for, over a folder, an input and an output.
-ghost use Rattle.std.specs.Prelude.{ℕ, List, Option, None, Some, map, string_bytes};
+//! The top call that waits for nobody: what the words ask for, over a folder, an input and an output.
+ghost use Rattle.std.specs.Prelude.{◌≡◌, ℕ, List, Option, None, Some, map, string_bytes};
 ghost use Rattle.ltm_io.specs.Folder.{Files};
 ghost use Rattle.ltm_io.specs.declared.doc.Doc.{Doc};
 ghost use Rattle.ltm_command.specs.Words as words_say;
 ghost use Rattle.ltm_command.specs.Words.{IsSized};
 ghost use Rattle.ltm_command.specs.Run.{outside};
-ghost use Rattle.ltm_program.specs.Ran.{Ran, without_threads};
+ghost use Rattle.ltm_program.specs.Ran.{Ran, needs_threads, without_threads};
 
 use crate::serve::serve;
 use ltm_command::{Command, Status, command_of, run_command, usage_text, write_text};
 use ltm_io::{OpenFolder, Sink, Source};
 use std::alloc::Global;
+use std::thread::Threads;
 
 /// Says what could have been asked for, where the words ask for no command; whatever else there is stays as it is.
 pub(crate) fn refuse_words<W: Sink>(output: &mut W) -> Status
@@ -22,8 +23,22 @@ pub(crate) fn refuse_words<W: Sink>(output: &mut W) -> Status
     write_text(output, usage_text(), Status::Usage)
 }
 
-/// Does a command that starts no thread; one that starts any is refused, as words that ask for none.
-fn do_alone<F: OpenFolder, S: Source, W: Sink>(
+/// Whether the words ask for a command whose threads may wait for one another. For all others, and for words that ask for none,
+/// `run_alone` does what `run` does, and returns.
+pub fn may_wait(words: &[String]) -> bool
+    ensures { result ≡ needs_threads (words_say.command_of (map string_bytes words.now)) }
+{
+    match command_of(words) {
+        Some(Command::Session { workers }) => workers > 0,
+        Some(Command::View { .. }) => true,
+        Some(Command::Editors { .. }) => true,
+        _ => false,
+    }
+}
+
+/// Does a command that can do without threads; one that cannot is refused, as words that ask for none.
+fn do_alone<R: Threads + Sync, F: OpenFolder, S: Source, W: Sink>(
+    rt: &R,
     alloc: Global,
     command: Command,
     folder: &mut F,
@@ -42,12 +57,13 @@ fn do_alone<F: OpenFolder, S: Source, W: Sink>(
         Command::Session { .. } => refuse_words(output),
         Command::View { .. } => refuse_words(output),
         Command::Editors { .. } => refuse_words(output),
-        _ => run_command(alloc, command, folder, output),
+        _ => run_command(rt, alloc, command, folder, output),
     }
 }
 
 /// Does what the words ask for, over this folder, this input and this output, where no thread has to be started for it: words
-/// that ask for workers, viewers or editors are refused by the usage line, as those that ask for nothing.
+/// that ask for workers, viewers or editors are refused by the usage line, as those that ask for nothing. Only `gap` starts
+/// threads here, for a large case; each works alone, and where none can be started the answer is the same.
 ///
 /// - `load` fetches the files of the case in order and reads them, loads the network (Yperman 2007) and
 ///   writes the totals line and a line for each link.
@@ -64,7 +80,8 @@ fn do_alone<F: OpenFolder, S: Source, W: Sink>(
 ///
 /// Everything is decided in this order: the words, the fetches, what the files say, the script line by line, the writing.
 /// `signals.csv` and `limits.csv` alone are fetched once the setup was read, each only where the setup asks for it.
-pub fn run_alone<F: OpenFolder, S: Source, W: Sink>(
+pub fn run_alone<R: Threads + Sync, F: OpenFolder, S: Source, W: Sink>(
+    rt: &R,
     alloc: Global,
     words: &[String],
     folder: &mut F,
@@ -78,7 +95,7 @@ pub fn run_alone<F: OpenFolder, S: Source, W: Sink>(
         (W.written output.new) (W.faults output.new)) }
 {
     match command_of(words) {
-        Some(command) => do_alone(alloc, command, folder, input, output),
+        Some(command) => do_alone(rt, alloc, command, folder, input, output),
         None => refuse_words(output),
     }
 }

@@ -1,5 +1,6 @@
 //! - **What it is**: the whole program but its `main`: `run`, which does what the words of a command line ask for over a
-//!   folder, an input and an output, and `run_alone`, which needs no threads; and the laws of every run.
+//!   folder, an input and an output, and `run_alone`, which can do without threads, waits for nobody and so returns; and the laws of
+//!   every run.
 //! - **On what it stands**: `ltm_command` for the commands that answer one text, `ltm_session` for the session, which
 //!   answers a script line by line, `ltm_session_workers` for workers beside it, `ltm_session_viewers` for viewers at it,
 //!   `ltm_session_editors` for several editors, and `ltm_casefile`, which reads the case.
@@ -19,7 +20,7 @@ mod serve;
 mod serve_beside;
 mod view;
 
-pub use alone::run_alone;
+pub use alone::{may_wait, run_alone};
 pub use laws::{
     editors_say, files_stay, refusals_say, sessions_say, texts_say, the_promise_is_kept,
 };

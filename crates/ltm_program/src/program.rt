@@ -39,7 +39,7 @@ fn do_command<R: Threads + Wait + Sync, F: OpenFolder, S: Source, W: Sink, G: Ga
         ),
         Command::View { viewers } => serve_viewed(rt, alloc, viewers, folder, input, output),
         Command::Editors { editors } => edit_together(rt, alloc, editors, folder, output),
-        _ => run_command(alloc, command, folder, output),
+        _ => run_command(rt, alloc, command, folder, output),
     }
 }
 

@@ -51,7 +51,7 @@ counts_in_row s c u t =
     let entered : List ℕ = grid (s.outs u) s.destinations (λ j d. c (up_of (s.out_link u j)) d t) in
     let arrived : List ℕ = list_below 1 (λ k. arrived_by s c (s.own u) t) in
     let rest : List ℕ =
-    list_below (s.outs u) (λ j. receiving s c (s.out_link u j) t) ++ (list_below (arms_of s u) (arm_capacity s u) ++ grid s.destinations (s.outs u) (λ d j. s.weight u d t j)) in
+    list_below (s.outs u) (λ j. receiving s c (s.out_link u j) t) ++ (list_below (arms_of s u) (arm_capacity s u t) ++ grid s.destinations (s.outs u) (λ d j. s.weight u d t j)) in
     let sends : List ℕ = grid (arms_of s u) s.destinations (sending s c u t) in
     let inner : (entered ++ arrived) ++ rest ≡ entered ++ (arrived ++ rest) = append_assoc entered arrived rest in
     let outer : (left ++ (entered ++ arrived)) ++ rest ≡ left ++ ((entered ++ arrived) ++ rest) = append_assoc left (entered ++ arrived) rest in

@@ -13,7 +13,7 @@ use Rattle.ltm_times.specs.Times.{time_spent}
 use Rattle.ltm_gap.specs.Gaps.{least_to, late_to, spent_to, least, late}
 use Rattle.ltm_report.specs.Gaps.{gap_line, gap_to_line}
 
--- what all who travel spend, the least that they could, and who is late, under a version
+-- what all who travel spend, an estimate of the least that they could, and who is late, under a version
 unfoldable pub gap_report : ℕ → Setting → Counts → List ℕ
 gap_report version s c = gap_line version (time_spent s c) (least s c) (late s c)
 

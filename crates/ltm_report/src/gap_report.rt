@@ -11,11 +11,12 @@ ghost use Rattle.ltm_report.specs.GapReports.{gap_to_of, IsGapReport};
 use crate::gaps::{gap_line_text, gap_to_text};
 use ltm_curve::Curves;
 use ltm_flows::{Loading, cold};
-use ltm_gap::{Gaps, gaps_of, spent_to};
+use ltm_gap::{Gaps, gaps_in_threads, spent_to};
 use ltm_scenario::Scenario;
 use ltm_times::time_spent;
 use ltm_units::NoMemory;
 use std::alloc::Global;
+use std::thread::Threads;
 
 /// Appends the line of a destination.
 #[tactic(auto, unfolding(ltm_setting::specs::Setting::setting_of))]
@@ -68,15 +69,20 @@ fn push_destinations(
     Ok(())
 }
 
-/// Loads a scenario, and gives what all who travel spend, the least that they could at the link times of its loading, and the
-/// same for each destination in order.
-pub fn gap_report_of(alloc: Global, scenario: &Scenario) -> Result<Vec<u8>, NoMemory>
+/// Loads a scenario, and gives what all who travel spend, an estimate of the least that they could at the link times of its
+/// loading, how many no route brings there by the end, and the same for each destination in order. The gap of a large case is
+/// found in threads; the report is the same however many there are.
+pub fn gap_report_of<R: Threads + Sync>(
+    rt: &R,
+    alloc: Global,
+    scenario: &Scenario,
+) -> Result<Vec<u8>, NoMemory>
     ensures { IfOk result (λ text. IsGapReport scenario.now text.items) }
 {
     let _setup = scenario.setup();
     let curves = cold(alloc, scenario)?;
     let loading = Loading::create(alloc, scenario, &curves, 0)?;
-    let gaps = gaps_of(alloc, scenario, &loading)?;
+    let gaps = gaps_in_threads(rt, alloc, scenario, &loading)?;
     let mut text = Vec::new(alloc);
     gap_line_text(alloc, 0, time_spent(&loading), gaps.all(), &mut text)?;
     push_destinations(alloc, scenario, &curves, &loading, &gaps, &mut text)?;

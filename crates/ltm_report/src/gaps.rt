@@ -57,8 +57,8 @@ fn push_gap_pieces(into: &mut Vec<u8>, spent: u128, gap: Gap) -> Result<(), NoMe
     push_late(into, gap.late)
 }
 
-/// Appends what all who travel spend and the least that they could, as `version 0 spent 64.900000 least 65.275000 gap
-/// -0.375000 late 4.900`.
+/// Appends what all who travel spend and an estimate of the least, as `version 0 spent 64.900000 least 64.900000 gap
+/// 0.000000 late 4.600`.
 #[tactic(auto, unfolding(crate::specs::Gaps::gap_line))]
 pub(crate) fn gap_line_text(
     alloc: Global,
@@ -78,8 +78,8 @@ pub(crate) fn gap_line_text(
     push_text(into, line.as_slice())
 }
 
-/// Appends the same of those who travel to a destination, as `to n3 spent 64.900000 least 65.275000 gap -0.375000 late
-/// 4.900`.
+/// Appends the same of those who travel to a destination, as `to n3 spent 64.900000 least 64.900000 gap 0.000000 late
+/// 4.600`.
 #[tactic(auto, unfolding(crate::specs::Gaps::gap_to_line))]
 pub(crate) fn gap_to_text(
     alloc: Global,
@@ -100,7 +100,7 @@ pub(crate) fn gap_to_text(
     push_text(into, line.as_slice())
 }
 
-/// Appends what all who travel spend in the loading of a scenario, and the least that they could at the link times of this
+/// Appends what all who travel spend in the loading of a scenario, an estimate of the least that they could at the link times of this
 /// loading.
 pub fn gap_text(
     alloc: Global,

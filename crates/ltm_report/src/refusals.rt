@@ -20,7 +20,7 @@ fn refused_text(into: &mut Vec<u8>, question: &[u8], cause: &[u8]) -> Result<(),
     Ok(())
 }
 
-/// Appends that nothing has the name that a question names, as `refused queue UnknownName`; the question is told by its word.
+/// Appends the refusal of a question about an unknown name, such as `refused queue UnknownName`; `question` is its word.
 #[tactic(auto, unfolding(crate::specs::Refusals::unknown_name_line))]
 pub fn unknown_name_text(question: &[u8], into: &mut Vec<u8>) -> Result<(), NoMemory>
     ensures ok { OnOk result (into.new.items ≡ into.old.items ++ unknown_name_line question.now) }
@@ -29,8 +29,8 @@ pub fn unknown_name_text(question: &[u8], into: &mut Vec<u8>) -> Result<(), NoMe
     refused_text(into, question, b" UnknownName\n")
 }
 
-/// Appends that the slot or boundary that a question names is not one of the loading that is shown, as
-/// `refused queue BadSlots`; the question is told by its word.
+/// Appends the refusal of a question about a slot or boundary that the loading shown does not have, such as
+/// `refused queue BadSlots`; `question` is its word.
 #[tactic(auto, unfolding(crate::specs::Refusals::bad_slots_line))]
 pub fn bad_slots_text(question: &[u8], into: &mut Vec<u8>) -> Result<(), NoMemory>
     ensures ok { OnOk result (into.new.items ≡ into.old.items ++ bad_slots_line question.now) }

@@ -36,7 +36,7 @@ with_demand_row t next row are is done kept =
     let there : demand.with_row (demand_of (scenario_in t)) row ≡ Ok next.demand = ap (λ d. demand.with_row d row) (sym (demand_there t are)) ∙ done in
     record {
       scenario = demand_is_scenario (scenario_in t) row next.demand are.scenario is there kept;
-      step = are.step;
+      pace = are.pace;
       demand_slots = ap (λ (d : DemandData). d.slots) (with_row_rows (demand_of (scenario_in t)) next.demand row there);
       splits_slots = are.splits_slots;
       entry_slots = are.entry_slots;
@@ -48,7 +48,7 @@ with_demand_row t next row are is done kept =
 pub with_same_demand : (t : Parts) (next : DemandState) → AreParts t → next.demand ≡ t.demand.demand → AreParts (record t { demand = next })
 with_same_demand t next are same = record {
   scenario = subst (λ (rows : List DemandRow). IsScenario (record (scenario_in t) { demand = rows })) (sym (ap (λ (d : DemandData). d.rows) same)) are.scenario;
-  step = are.step;
+  pace = are.pace;
   demand_slots = ap (λ (d : DemandData). d.slots) same ∙ are.demand_slots;
   splits_slots = are.splits_slots;
   entry_slots = are.entry_slots;
@@ -62,7 +62,7 @@ with_split_row t next key weights are is done have =
     let there : splits.with_row (splits_of (scenario_in t)) key weights ≡ Ok next = ap (λ d. splits.with_row d key weights) (sym (splits_there t are)) ∙ done in
     record {
       scenario = split_is_scenario (scenario_in t) key weights next are.scenario is there have;
-      step = are.step;
+      pace = are.pace;
       demand_slots = are.demand_slots;
       splits_slots = ap (λ (d : SplitsData). d.slots) (with_split_row_rows (splits_of (scenario_in t)) next key weights there);
       entry_slots = are.entry_slots;
@@ -77,7 +77,7 @@ with_same_splits t next are same = subst (λ (s : SplitsData). AreParts (record 
 pub with_added : (t : Parts) (node : ℕ) (next : List ℕ) → AreParts t → node < Rattle.std.proofs.Common.length t.network.nodes → with_destination_at t.setup.most_destinations t.destinations node (destination_of t.destinations node) ≡ Ok next → AreParts (record t { destinations = next })
 with_added t node next are there done = record {
   scenario = added_is_scenario (scenario_in t) node next are.scenario there done;
-  step = are.step;
+  pace = are.pace;
   demand_slots = are.demand_slots;
   splits_slots = are.splits_slots;
   entry_slots = are.entry_slots;
@@ -90,11 +90,11 @@ pub with_same_destinations : (t : Parts) (next : List ℕ) → AreParts t → ne
 with_same_destinations t next are same = subst (λ (ds : List ℕ). AreParts (record t { destinations = ds })) (sym same) are
 
 -- a link more
-pub with_linked : (t : Parts) (name tail head : List ℕ) (diagram : Diagram) (network : NetworkData) (diagrams : DiagramsState) (entry exit : LimitsState) → NetworksStay → AreParts t → checked t.network name tail head ≡ Ok tt → HasNoSplitAt (scenario_in t) (number_of t.network.nodes tail) → IsOk (limits_of diagram t.setup.step.0) →
-    network ≡ linked_network t.network name tail head → diagrams.step ≡ t.diagrams.step → diagrams.diagrams ≡ t.diagrams.diagrams ++ diagram ∷ [] →
+pub with_linked : (t : Parts) (name tail head : List ℕ) (diagram : Diagram) (network : NetworkData) (diagrams : DiagramsState) (entry exit : LimitsState) → NetworksStay → AreParts t → checked t.network name tail head ≡ Ok tt → HasNoSplitAt (scenario_in t) (number_of t.network.nodes tail) → IsOk (limits_of diagram t.setup.step.0 t.setup.carry) →
+    network ≡ linked_network t.network name tail head → diagrams.pace ≡ t.diagrams.pace → diagrams.diagrams ≡ t.diagrams.diagrams ++ diagram ∷ [] →
     entry.limits ≡ with_limits_of_link t.entry.limits t.entry.slots → entry.slots ≡ t.entry.slots → exit.limits ≡ with_limits_of_link t.exit.limits t.exit.slots → exit.slots ≡ t.exit.slots →
     (scenario_in (record t { network = network; diagrams = diagrams; entry = entry; exit = exit }) ≡ with_link_on (scenario_in t) (linked_network t.network name tail head) diagram) × AreParts (record t { network = network; diagrams = diagrams; entry = entry; exit = exit })
-with_linked t name tail head diagram network diagrams entry exit stay are taken free sets network_is step_is diagrams_are entry_is entry_slots exit_is exit_slots =
+with_linked t name tail head diagram network diagrams entry exit stay are taken free sets network_is pace_is diagrams_are entry_is entry_slots exit_is exit_slots =
     let same : scenario_in (record t { network = network; diagrams = diagrams; entry = entry; exit = exit }) ≡ with_link_on (scenario_in t) (linked_network t.network name tail head) diagram =
     λ i. record (scenario_in t) {
       network = network_is i;
@@ -105,7 +105,7 @@ with_linked t name tail head diagram network diagrams entry exit stay are taken 
       same,
       record {
         scenario = subst IsScenario (sym same) (linked_is_scenario (scenario_in t) name tail head diagram stay are.scenario taken free sets);
-        step = step_is ∙ are.step;
+        pace = pace_is ∙ are.pace;
         demand_slots = are.demand_slots;
         splits_slots = are.splits_slots;
         entry_slots = entry_slots ∙ are.entry_slots;

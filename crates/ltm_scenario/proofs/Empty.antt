@@ -2,9 +2,8 @@
 use Rattle.std.proofs.Common.{◌≡◌, ℕ, ◌≤◌, [], Bool, true, false, cond, Ok, Err, Result, refl, arith}
 use Rattle.std.proofs.lemmas.Bool.Decides.{nat_tests}
 use Rattle.std.proofs.lemmas.List.Elements.{All-nil}
-use Rattle.ltm_units.specs.Bounds.{longest_step, most_in_slot, most_slots, most_rows, most_links, most_destinations}
+use Rattle.ltm_units.specs.Bounds.{most_rows}
 use Rattle.ltm_units.proofs.Results.{both_ok}
-use Rattle.ltm_network.specs.Network.{empty_network}
 use Rattle.ltm_network.specs.IsNetwork.{NetworksStay}
 use Rattle.ltm_limits.proofs.Stays.{limits_whole}
 use Rattle.std.specs.List.Sorted.{IsStrictlySortedBy}

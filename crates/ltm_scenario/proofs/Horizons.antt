@@ -91,7 +91,7 @@ stretched_are_parts t slots demand rows entry exit are longer most demand_is row
       same,
       record {
         scenario = subst IsScenario (sym same) (longer_is_scenario (scenario_in t) slots are.scenario (omega (arith, longer)) most);
-        step = are.step;
+        pace = are.pace;
         demand_slots = ap (λ (d : DemandState). d.demand.slots) demand_is;
         splits_slots = ap (λ (d : SplitsData). d.slots) rows_are;
         entry_slots = entry_slots;
@@ -122,7 +122,7 @@ shortened_are_parts t slots demand rows entry exit are is demand_is rows_are ent
       same,
       record {
         scenario = subst IsScenario (sym same) is;
-        step = are.step;
+        pace = are.pace;
         demand_slots = ap (λ (d : DemandState). d.demand.slots) demand_is;
         splits_slots = ap (λ (d : SplitsData). d.slots) rows_are;
         entry_slots = entry_slots;

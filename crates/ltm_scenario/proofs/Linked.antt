@@ -37,18 +37,18 @@ network_refused d name tail head fault is = ap (λ r. r >>> Ok (network.network_
 pub refused_by_network : (s : ScenarioData) (name tail head : List ℕ) (diagram : Diagram) (fault : NetworkFault) → checked s.network name tail head ≡ Err fault → with_link s name tail head diagram ≡ Err (Network fault)
 unfolding with_link
 refused_by_network s name tail head diagram fault is =
-    ap (λ r. of_network r >>= λ next. of_diagram (limits_of diagram s.setup.step.0) >>= λ _. Ok (with_link_on s next diagram)) (network_refused s.network name tail head fault is)
+    ap (λ r. of_network r >>= λ next. of_diagram (limits_of diagram s.setup.step.0 s.setup.carry) >>= λ _. Ok (with_link_on s next diagram)) (network_refused s.network name tail head fault is)
 
-pub refused_by_diagram : (s : ScenarioData) (name tail head : List ℕ) (diagram : Diagram) (fault : DiagramFault) → checked s.network name tail head ≡ Ok tt → limits_of diagram s.setup.step.0 ≡ Err fault → with_link s name tail head diagram ≡ Err (BadDiagram fault)
+pub refused_by_diagram : (s : ScenarioData) (name tail head : List ℕ) (diagram : Diagram) (fault : DiagramFault) → checked s.network name tail head ≡ Ok tt → limits_of diagram s.setup.step.0 s.setup.carry ≡ Err fault → with_link s name tail head diagram ≡ Err (BadDiagram fault)
 unfolding with_link
 refused_by_diagram s name tail head diagram fault taken is =
-    ap (λ r. of_network r >>= λ next. of_diagram (limits_of diagram s.setup.step.0) >>= λ _. Ok (with_link_on s next diagram)) (network_linked s.network name tail head taken)
+    ap (λ r. of_network r >>= λ next. of_diagram (limits_of diagram s.setup.step.0 s.setup.carry) >>= λ _. Ok (with_link_on s next diagram)) (network_linked s.network name tail head taken)
     ∙ ap (λ r. of_diagram r >>= λ _. Ok (with_link_on s (network.network_linked s.network name tail head) diagram)) is
 
-pub is_linked : (s : ScenarioData) (name tail head : List ℕ) (diagram : Diagram) (limits : Limits) → checked s.network name tail head ≡ Ok tt → limits_of diagram s.setup.step.0 ≡ Ok limits → with_link s name tail head diagram ≡ Ok (with_link_on s (network.network_linked s.network name tail head) diagram)
+pub is_linked : (s : ScenarioData) (name tail head : List ℕ) (diagram : Diagram) (limits : Limits) → checked s.network name tail head ≡ Ok tt → limits_of diagram s.setup.step.0 s.setup.carry ≡ Ok limits → with_link s name tail head diagram ≡ Ok (with_link_on s (network.network_linked s.network name tail head) diagram)
 unfolding with_link
 is_linked s name tail head diagram limits taken is =
-    ap (λ r. of_network r >>= λ next. of_diagram (limits_of diagram s.setup.step.0) >>= λ _. Ok (with_link_on s next diagram)) (network_linked s.network name tail head taken)
+    ap (λ r. of_network r >>= λ next. of_diagram (limits_of diagram s.setup.step.0 s.setup.carry) >>= λ _. Ok (with_link_on s next diagram)) (network_linked s.network name tail head taken)
     ∙ ap (λ r. of_diagram r >>= λ _. Ok (with_link_on s (network.network_linked s.network name tail head) diagram)) is
 
 -- ---- nodes and out-links grow
@@ -96,7 +96,7 @@ split_stays s name tail head diagram row apart is =
       weight_for_each = is.weight_for_each ∙ sym same;
     }
 
-pub linked_is_scenario : (s : ScenarioData) (name tail head : List ℕ) (diagram : Diagram) → NetworksStay → IsScenario s → checked s.network name tail head ≡ Ok tt → HasNoSplitAt s (number_of s.network.nodes tail) → IsOk (limits_of diagram s.setup.step.0) → IsScenario (with_link_on s (network.network_linked s.network name tail head) diagram)
+pub linked_is_scenario : (s : ScenarioData) (name tail head : List ℕ) (diagram : Diagram) → NetworksStay → IsScenario s → checked s.network name tail head ≡ Ok tt → HasNoSplitAt s (number_of s.network.nodes tail) → IsOk (limits_of diagram s.setup.step.0 s.setup.carry) → IsScenario (with_link_on s (network.network_linked s.network name tail head) diagram)
 linked_is_scenario s name tail head diagram stay is taken free sets =
     let next : NetworkData = network.network_linked s.network name tail head in
     record {
@@ -104,7 +104,7 @@ linked_is_scenario s name tail head diagram stay is taken free sets =
       network = stay.more s.network next name tail head is.network (network_linked s.network name tail head taken);
       most_links = is.most_links;
       diagram_for_each = length-append s.diagrams (diagram ∷ []) ∙ ap (λ n. n + 1) is.diagram_for_each ∙ sym (length-append s.network.links _);
-      limits = All-push (λ d. IsOk (limits_of d s.setup.step.0)) s.diagrams diagram is.limits sets;
+      limits = All-push (λ d. IsOk (limits_of d s.setup.step.0 s.setup.carry)) s.diagrams diagram is.limits sets;
       entry = subst (λ n. AreWhole (with_limits_of_link s.entry s.setup.slots) n s.setup.slots) (sym (length-append s.network.links _)) (limits_whole.more s.entry (length s.network.links) s.setup.slots is.entry);
       exit = subst (λ n. AreWhole (with_limits_of_link s.exit s.setup.slots) n s.setup.slots) (sym (length-append s.network.links _)) (limits_whole.more s.exit (length s.network.links) s.setup.slots is.exit);
       few_destinations = is.few_destinations;

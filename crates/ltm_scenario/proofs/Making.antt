@@ -196,11 +196,11 @@ makes s next (Splits node destination rows) is =
     subst (λ (z : ScenarioData). Makes s z (Splits node destination rows)) (sym same)
     (splits node destination rows n d (record { stand_at = named.0; lead_to = named.1; first = said.first refl; rising = said.rising; within = said.within; closed = said.closed }))
 makes s next (NewDiagram name new) is =
-    let l = bound (found (find_link s.network name) UnknownName) (λ link. or_edit_cause BadDiagram (limits_of new s.setup.step.0) >>= λ _. Ok (with_diagram s link new)) next is in
-    let d = bound (or_edit_cause BadDiagram (limits_of new s.setup.step.0)) (λ _. Ok (with_diagram s l.0 new)) next l.2 in
+    let l = bound (found (find_link s.network name) UnknownName) (λ link. or_edit_cause BadDiagram (limits_of new s.setup.step.0 s.setup.carry) >>= λ _. Ok (with_diagram s link new)) next is in
+    let d = bound (or_edit_cause BadDiagram (limits_of new s.setup.step.0 s.setup.carry)) (λ _. Ok (with_diagram s l.0 new)) next l.2 in
     let same : with_diagram s l.0 new ≡ next = cc (d.2) in
     subst (λ (z : ScenarioData). Makes s z (NewDiagram name new)) same
-    (diagram name new l.0 (was_found (find_link s.network name) UnknownName l.0 l.1) (ap is_ok (uncaused BadDiagram (limits_of new s.setup.step.0) d.0 d.1)))
+    (diagram name new l.0 (was_found (find_link s.network name) UnknownName l.0 l.1) (ap is_ok (uncaused BadDiagram (limits_of new s.setup.step.0 s.setup.carry) d.0 d.1)))
 makes s next (Exit name from to amount) is =
     let l = bound (limited_link s name from to) (λ link. Ok (with_limit_at s AtExit link from to amount.0)) next is in
     let same : with_limit_at s AtExit l.0 from to amount.0 ≡ next = cc (l.2) in

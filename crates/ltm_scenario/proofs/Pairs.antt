@@ -1,5 +1,5 @@
 -- All split rows of a node and a destination at once: they keep a scenario one and valid, and are undone.
-use Rattle.std.proofs.Common.{◌≡◌, ℕ, ◌<◌, ◌≤◌, zero, suc, ◌==◌, ◌&&◌, ◌||◌, not, Bool, true, false, cond, nat_lt, List, [], ◌∷◌, ◌++◌, length, get_or, map, All, Option, Some, None, Ok, Err, refl, sym, ap, subst, ◌∙◌, arith}
+use Rattle.std.proofs.Common.{◌≡◌, ℕ, ◌<◌, ◌≤◌, suc, ◌==◌, ◌&&◌, ◌||◌, Bool, true, false, cond, nat_lt, List, [], ◌∷◌, ◌++◌, length, get_or, All, Some, Ok, Err, refl, sym, ap, subst, ◌∙◌, arith}
 use Rattle.std.specs.Prelude.{filter, slice_get}
 use Rattle.std.specs.Option.{option_map}
 use Rattle.std.specs.List.{list_any, list_all}
@@ -31,7 +31,7 @@ use Rattle.ltm_scenario.specs.Parts.{scenario_in, state_in, AreParts}
 use Rattle.ltm_scenario.specs.Undo.{Undoes}
 use Rattle.ltm_scenario.proofs.Kept.{with_split_rows}
 use Rattle.ltm_scenario.proofs.Changed.{splits_there}
-use Rattle.ltm_scenario.proofs.Keeps.{with_rows, or_right, and_join, all_weaker, all_lead_more, still_small}
+use Rattle.ltm_scenario.proofs.Keeps.{with_rows, and_join, all_weaker, all_lead_more, still_small}
 use Rattle.ltm_scenario.proofs.Undoing.{undoes_by}
 
 -- the data once the rows of a pair are others
@@ -205,7 +205,7 @@ with_pair_parts t next n d entries are is done have =
     let rows : next ≡ splits.with_rows (splits_of (scenario_in t)) (replaced t.splits.rows n d entries) = with_pair_rows (splits_of (scenario_in t)) next n d entries there in
     record {
       scenario = subst (λ (s : SplitsData). IsScenario (record (scenario_in t) { splits = s.rows })) (sym rows) (pair_is_scenario n d entries (scenario_in t) are.scenario is (subst (λ (s : SplitsData). HaveWeights s.rows) rows have));
-      step = are.step;
+      pace = are.pace;
       demand_slots = are.demand_slots;
       splits_slots = ap (λ (s : SplitsData). s.slots) rows;
       entry_slots = are.entry_slots;

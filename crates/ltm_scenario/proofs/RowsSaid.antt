@@ -1,15 +1,14 @@
 -- What the check of the rows that an edit says tells of them.
-use Rattle.std.proofs.Common.{◌≡◌, ℕ, ◌<◌, ◌≤◌, zero, suc, ◌==◌, ◌&&◌, not, nat_lt, Bool, true, false, List, [], ◌∷◌, length, map, sum, All, Option, Some, None, Result, Ok, Err, is_none, refl, sym, ap, ◌∙◌, arith}
+use Rattle.std.proofs.Common.{◌≡◌, ℕ, ◌<◌, zero, suc, ◌==◌, not, true, List, [], ◌∷◌, length, sum, All, Option, Some, None, Ok, Err, is_none, refl, ap, arith}
 use Rattle.std.specs.Prelude.{slice_get}
 use Rattle.std.specs.Option.{option_map}
 use Rattle.std.specs.List.{list_all}
 use Rattle.std.proofs.lemmas.Bool.Decides.{nat_tests}
 use Rattle.std.proofs.lemmas.List.Elements.{All-nil, All-cons, All-map}
-use Rattle.ltm_units.specs.Results.{refuse, ◌>>>◌}
+use Rattle.ltm_units.specs.Results.{refuse}
 use Rattle.ltm_units.proofs.Results.{not_refused, both_ok}
 use Rattle.ltm_splits.specs.Table.{Entry}
 use Rattle.ltm_splits.specs.Entries.{start_at, IsRising}
-use Rattle.ltm_scenario.specs.declared.edit.EditCause.{EditCause}
 use Rattle.ltm_scenario.specs.declared.edit.EditCause.TheVariants.{UnknownName, BadSlots, OpenSplit, ZeroWeight}
 use Rattle.ltm_scenario.specs.Weights.{NamedWeight, NamedRow}
 use Rattle.ltm_scenario.specs.Data.{ScenarioData}

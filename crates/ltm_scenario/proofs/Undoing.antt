@@ -48,7 +48,7 @@ demand_restored t next row are is done =
       same,
       record {
         scenario = subst IsScenario (sym same) is;
-        step = are.step;
+        pace = are.pace;
         demand_slots = ap (λ (d : DemandData). d.slots) rows ∙ are.demand_slots;
         splits_slots = are.splits_slots;
         entry_slots = are.entry_slots;
@@ -65,7 +65,7 @@ entry_restored t next link from was are is done slots =
       same,
       record {
         scenario = subst IsScenario (sym same) is;
-        step = are.step;
+        pace = are.pace;
         demand_slots = are.demand_slots;
         splits_slots = are.splits_slots;
         entry_slots = slots ∙ are.entry_slots;
@@ -81,7 +81,7 @@ exit_restored t next link from was are is done slots =
       same,
       record {
         scenario = subst IsScenario (sym same) is;
-        step = are.step;
+        pace = are.pace;
         demand_slots = are.demand_slots;
         splits_slots = are.splits_slots;
         entry_slots = are.entry_slots;
@@ -132,7 +132,7 @@ splits_restored t next rows are is done =
       same,
       record {
         scenario = subst IsScenario (sym same) is;
-        step = are.step;
+        pace = are.pace;
         demand_slots = are.demand_slots;
         splits_slots = ap (λ (d : SplitsData). d.slots) done ∙ are.splits_slots;
         entry_slots = are.entry_slots;
@@ -143,13 +143,13 @@ splits_restored t next rows are is done =
     )
 
 -- ---- diagrams
-diagram_is_scenario : (s : ScenarioData) (link : ℕ) (diagram : LinkDiagram) → IsScenario s → IsOk (limits_of diagram s.setup.step.0) → IsScenario (record s { diagrams = slice_set s.diagrams link diagram })
+diagram_is_scenario : (s : ScenarioData) (link : ℕ) (diagram : LinkDiagram) → IsScenario s → IsOk (limits_of diagram s.setup.step.0 s.setup.carry) → IsScenario (record s { diagrams = slice_set s.diagrams link diagram })
 diagram_is_scenario s link diagram is sets = record {
   setup = is.setup;
   network = is.network;
   most_links = is.most_links;
   diagram_for_each = length-set s.diagrams link diagram ∙ is.diagram_for_each;
-  limits = All-set (λ d. IsOk (limits_of d s.setup.step.0)) s.diagrams link diagram sets is.limits;
+  limits = All-set (λ d. IsOk (limits_of d s.setup.step.0 s.setup.carry)) s.diagrams link diagram sets is.limits;
   entry = is.entry;
   exit = is.exit;
   few_destinations = is.few_destinations;
@@ -161,13 +161,13 @@ diagram_is_scenario s link diagram is sets = record {
   weights = is.weights;
 }
 
-pub diagrams_changed : (t : Parts) (next : DiagramsState) (link : ℕ) (diagram : LinkDiagram) (limits : Limits) → AreParts t → limits_of diagram t.setup.step.0 ≡ Ok limits → next.step ≡ t.diagrams.step → next.diagrams ≡ slice_set t.diagrams.diagrams link diagram → (scenario_in (record t { diagrams = next }) ≡ record (scenario_in t) { diagrams = slice_set t.diagrams.diagrams link diagram }) × AreParts (record t { diagrams = next })
-diagrams_changed t next link diagram limits are sets step done =
+pub diagrams_changed : (t : Parts) (next : DiagramsState) (link : ℕ) (diagram : LinkDiagram) (limits : Limits) → AreParts t → limits_of diagram t.setup.step.0 t.setup.carry ≡ Ok limits → next.pace ≡ t.diagrams.pace → next.diagrams ≡ slice_set t.diagrams.diagrams link diagram → (scenario_in (record t { diagrams = next }) ≡ record (scenario_in t) { diagrams = slice_set t.diagrams.diagrams link diagram }) × AreParts (record t { diagrams = next })
+diagrams_changed t next link diagram limits are sets pace done =
     let same : scenario_in (record t { diagrams = next }) ≡ record (scenario_in t) { diagrams = slice_set t.diagrams.diagrams link diagram } = ap (λ ds. record (scenario_in t) { diagrams = ds }) done in (
       same,
       record {
         scenario = subst IsScenario (sym same) (diagram_is_scenario (scenario_in t) link diagram are.scenario (ap is_ok sets));
-        step = step ∙ are.step;
+        pace = pace ∙ are.pace;
         demand_slots = are.demand_slots;
         splits_slots = are.splits_slots;
         entry_slots = are.entry_slots;
@@ -177,10 +177,10 @@ diagrams_changed t next link diagram limits are sets step done =
       },
     )
 
-pub diagrams_restored : (t : Parts) (next : DiagramsState) (link : ℕ) (diagram : LinkDiagram) (limits : Limits) → AreParts t → limits_of diagram t.setup.step.0 ≡ Ok limits → next.step ≡ t.diagrams.step → next.diagrams ≡ slice_set t.diagrams.diagrams link diagram → (scenario_in (record t { diagrams = next }) ≡ undone (scenario_in t) (Diagram link diagram limits)) × AreParts (record t { diagrams = next })
-diagrams_restored t next link diagram limits are sets step done = diagrams_changed t next link diagram limits are sets step done
+pub diagrams_restored : (t : Parts) (next : DiagramsState) (link : ℕ) (diagram : LinkDiagram) (limits : Limits) → AreParts t → limits_of diagram t.setup.step.0 t.setup.carry ≡ Ok limits → next.pace ≡ t.diagrams.pace → next.diagrams ≡ slice_set t.diagrams.diagrams link diagram → (scenario_in (record t { diagrams = next }) ≡ undone (scenario_in t) (Diagram link diagram limits)) × AreParts (record t { diagrams = next })
+diagrams_restored t next link diagram limits are sets pace done = diagrams_changed t next link diagram limits are sets pace done
 
-pub diagram_undoes : (t : Parts) (next : DiagramsState) (link : ℕ) (diagram old : LinkDiagram) (limits : Limits) → AreParts t → link < length t.diagrams.diagrams → next.diagrams ≡ slice_set t.diagrams.diagrams link diagram → old ≡ get_or t.diagrams.diagrams link old → limits_of old t.setup.step.0 ≡ Ok limits → Undoes (state_in t) (state_in (record t { diagrams = next })) (Diagram link old limits)
+pub diagram_undoes : (t : Parts) (next : DiagramsState) (link : ℕ) (diagram old : LinkDiagram) (limits : Limits) → AreParts t → link < length t.diagrams.diagrams → next.diagrams ≡ slice_set t.diagrams.diagrams link diagram → old ≡ get_or t.diagrams.diagrams link old → limits_of old t.setup.step.0 t.setup.carry ≡ Ok limits → Undoes (state_in t) (state_in (record t { diagrams = next })) (Diagram link old limits)
 diagram_undoes t next link diagram old limits are inside done was sets =
     let back : slice_set next.diagrams link old ≡ t.diagrams.diagrams =
     ap (λ ds. slice_set ds link old) done ∙ set-set t.diagrams.diagrams link diagram old ∙ ap (set t.diagrams.diagrams link) was ∙ set-get_or t.diagrams.diagrams link old in

@@ -54,7 +54,7 @@ with_link_on s network diagram = record s {
 unfoldable pub with_link : ScenarioData → List ℕ → List ℕ → List ℕ → Diagram → Result ScenarioData LinkFault
 with_link s name tail head diagram =
     of_network (network.with_link s.network name tail head) >>= λ next.
-    of_diagram (limits_of diagram s.setup.step.0) >>= λ _.
+    of_diagram (limits_of diagram s.setup.step.0 s.setup.carry) >>= λ _.
     Ok (with_link_on s next diagram)
 
 -- the destinations, at most so many, once a node is one

@@ -168,7 +168,7 @@ with_diagram s link diagram = record s { diagrams = slice_set s.diagrams link di
 unfoldable pub diagram_edited : ScenarioData → List ℕ → Diagram → Result ScenarioData EditCause
 diagram_edited s name diagram =
     found (find_link s.network name) UnknownName >>= λ link.
-    or_edit_cause BadDiagram (limits_of diagram s.setup.step.0) >>= λ _.
+    or_edit_cause BadDiagram (limits_of diagram s.setup.step.0 s.setup.carry) >>= λ _.
     Ok (with_diagram s link diagram)
 
 -- ---- the horizon

@@ -31,7 +31,7 @@ pub record IsScenario (s : ScenarioData) : Type 0 where
   pub most_links : s.network.most_links ≡ s.setup.most_links
   pub diagram_for_each : length s.diagrams ≡ length s.network.links
   -- each diagram sets limits at the step
-  pub limits : All (λ diagram. IsOk (limits_of diagram s.setup.step.0)) s.diagrams
+  pub limits : All (λ diagram. IsOk (limits_of diagram s.setup.step.0 s.setup.carry)) s.diagrams
   -- an entry and an exit limit for each link and slot
   pub entry : AreWhole s.entry (length s.network.links) s.setup.slots
   pub exit : AreWhole s.exit (length s.network.links) s.setup.slots

@@ -78,7 +78,7 @@ pub data Makes (s : ScenarioData) : ScenarioData → Edit → Type 0 where
       Makes s (record s { splits = put_in s.splits key (weights_at s key.node.0 weights) }) (Split node destination from weights)
   splits : (node destination : List ℕ) (rows : List NamedRow) (n d : ℕ) → AreRowsSaid s node destination rows n d →
       Makes s (record s { splits = replaced s.splits n d (entries_said s n rows) }) (Splits node destination rows)
-  diagram : (name : List ℕ) (new : Diagram) (link : ℕ) → find_link s.network name ≡ Some link → IsOk (limits_of new s.setup.step.0) →
+  diagram : (name : List ℕ) (new : Diagram) (link : ℕ) → find_link s.network name ≡ Some link → IsOk (limits_of new s.setup.step.0 s.setup.carry) →
       Makes s (with_diagram s link new) (NewDiagram name new)
   exit : (name : List ℕ) (from to : ℕ) (amount : Units) (link : ℕ) → IsLinkSaid s name from to link →
       Makes s (with_limit_at s AtExit link from to amount.0) (Exit name from to amount)

@@ -20,10 +20,10 @@ scenario_in t = record {
 abbrev pub state_in : Parts → ScenarioState
 state_in t = record { scenario = scenario_in t; demand_room = t.demand.room; entry_places = t.entry.places; exit_places = t.exit.places }
 
--- the parts agree on the step, the horizon and the most rows, and what they say is a scenario
+-- the parts agree on the pace, the horizon and the most rows, and what they say is a scenario
 pub record AreParts (t : Parts) : Type 0 where
   pub scenario : IsScenario (scenario_in t)
-  pub step : t.diagrams.step ≡ t.setup.step.0
+  pub pace : t.diagrams.pace ≡ record { step = t.setup.step; carry = t.setup.carry }
   pub demand_slots : t.demand.demand.slots ≡ t.setup.slots
   pub splits_slots : t.splits.slots ≡ t.setup.slots
   pub entry_slots : t.entry.slots ≡ t.setup.slots

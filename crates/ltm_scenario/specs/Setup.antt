@@ -35,7 +35,7 @@ pub record IsSetup (setup : Setup) : Type 0 where
 abbrev pub default_cells : ℕ
 default_cells = 54000000
 
--- the setup of a case that does not say how large it may be, nor that turns move whole
+-- the setup of a case that does not say how large it may be, nor that turns move whole or capacities are carried
 abbrev pub setup_of : Millis → ℕ → Units → Setup
 setup_of step slots capacity = record {
   step = step;
@@ -47,6 +47,7 @@ setup_of step slots capacity = record {
   most_links = default_links;
   most_destinations = default_destinations;
   by_turn = false;
+  carry = false;
 }
 
 abbrev pub is_between : ℕ → ℕ → ℕ → Bool

@@ -33,7 +33,7 @@ Fits s (NewSplit key) = Unit {0}
 Fits s (OldSplit key was) = IsSome (row_of s.scenario.splits key) × AreWeights was.items
 Fits s (Pair node destination was) =
     (has_split s.scenario.splits node.0 destination ≡ true) × All (λ row. AreWeights row.1) was × (length (replaced s.scenario.splits node.0 destination was) ≤ s.scenario.setup.most_split_rows)
-Fits s (Diagram link diagram limits) = (link < length s.scenario.diagrams) × (limits_of diagram s.scenario.setup.step.0 ≡ Ok limits)
+Fits s (Diagram link diagram limits) = (link < length s.scenario.diagrams) × (limits_of diagram s.scenario.setup.step.0 s.scenario.setup.carry ≡ Ok limits)
 Fits s (Horizon slots) = slots ≤ s.scenario.setup.slots
 
 -- it can be undone without memory, and then is a scenario

@@ -16,9 +16,18 @@ pub struct Timed {
     pub delays: Delays,
 }
 
-/// The diagrams by link number, and beside them the limits that they set at the step.
+/// What the limits of a link depend on besides its diagram.
+#[derive(Clone, Copy)]
+pub struct Pace {
+    /// The length of a slot.
+    pub step: Millis,
+    /// Whether what is left over of a capacity is carried to the next slot.
+    pub carry: bool,
+}
+
+/// The diagrams by link number, and beside them the limits that they set at the pace of the setup.
 pub struct Diagrams {
-    step: Millis,
+    pace: Pace,
     diagrams: Vec<Diagram>,
     timed: Vec<Timed>,
 }
@@ -27,7 +36,7 @@ pub struct Diagrams {
 impl Drop for Diagrams {
     fn drop(self) {
         let Diagrams {
-            step: _step,
+            pace: _pace,
             diagrams: _diagrams,
             timed: _timed,
         } = self;
@@ -41,20 +50,20 @@ impl Model for Diagrams {
 
     ghost Value = { DiagramsState };
 
-    ghost view = { λ d. record { step = d.step.0; diagrams = d.diagrams.items; room = min (vec_capacity d.diagrams - vec_len d.diagrams) (vec_capacity d.timed - vec_len d.timed) } };
+    ghost view = { λ d. record { pace = d.pace; diagrams = d.diagrams.items; room = min (vec_capacity d.diagrams - vec_len d.diagrams) (vec_capacity d.timed - vec_len d.timed) } };
 
-    ghost invariant = { λ d. AreTimed d.step.0 d.diagrams.items d.timed.items };
+    ghost invariant = { λ d. AreTimed d.pace.step.0 d.pace.carry d.diagrams.items d.timed.items };
 }
 
 impl Diagrams {
-    pub fn new(alloc: Global, step: Millis) -> Diagrams
+    pub fn new(alloc: Global, step: Millis, carry: bool) -> Diagrams
         requires some { 1 ≤ step.0 }
         requires most { step.0 ≤ longest_step }
-        ensures step { result.step ≡ step.0 }
+        ensures pace { result.pace ≡ record { step = step; carry = carry } }
         ensures diagrams { result.diagrams ≡ [] }
     {
         Diagrams {
-            step,
+            pace: Pace { step, carry },
             diagrams: Vec::new(alloc),
             timed: Vec::new(alloc),
         }
@@ -70,7 +79,7 @@ impl Diagrams {
     pub fn limits(&self, link: u32) -> Limits
         requires { link < length self.now.diagrams }
         ensures limits { (diagram : Diagram) → slice_get self.now.diagrams link ≡ Some diagram
-            → limits_of diagram self.now.step ≡ Ok result }
+            → limits_of diagram self.now.pace.step.0 self.now.pace.carry ≡ Ok result }
     {
         self.timed[link as usize].limits
     }
@@ -80,25 +89,25 @@ impl Diagrams {
         requires { link < length self.now.diagrams }
         ensures delays { (diagram : Diagram) → (limits : Limits)
             → slice_get self.now.diagrams link ≡ Some diagram
-            → limits_of diagram self.now.step ≡ Ok limits → AreDelays self.now.step limits result }
+            → limits_of diagram self.now.pace.step.0 self.now.pace.carry ≡ Ok limits → AreDelays self.now.pace.step.0 limits result }
     {
         self.timed[link as usize].delays
     }
 
     /// Limits with their times counted in slots.
     fn timed(&self, diagram: &Diagram, limits: Limits) -> Timed
-        requires { limits_of diagram.now self.now.step ≡ Ok limits }
+        requires { limits_of diagram.now self.now.pace.step.0 self.now.pace.carry ≡ Ok limits }
         ensures limits { result.limits ≡ limits }
-        ensures delays { AreDelays self.now.step result.limits result.delays }
+        ensures delays { AreDelays self.now.pace.step.0 result.limits result.delays }
     {
         limits_in_range();
-        let delays = Delays::of(&limits, self.step);
+        let delays = Delays::of(&limits, self.pace.step);
         Timed { limits, delays }
     }
 
     /// Makes room for one link more.
     pub fn reserve(&mut self) -> Result<(), NoMemory>
-        ensures step { self.new.step ≡ self.old.step }
+        ensures pace { self.new.pace ≡ self.old.pace }
         ensures diagrams { self.new.diagrams ≡ self.old.diagrams }
         ensures ok { OnOk result (0 < self.new.room) }
     {
@@ -109,9 +118,9 @@ impl Diagrams {
 
     /// Puts a diagram last, with the limits that it sets.
     pub fn push(&mut self, diagram: Diagram, limits: Limits)
-        requires limits { limits_of diagram self.old.step ≡ Ok limits }
+        requires limits { limits_of diagram self.old.pace.step.0 self.old.pace.carry ≡ Ok limits }
         requires room { 0 < self.old.room }
-        ensures step { self.new.step ≡ self.old.step }
+        ensures pace { self.new.pace ≡ self.old.pace }
         ensures diagrams { self.new.diagrams ≡ self.old.diagrams ++ diagram ∷ [] }
     {
         let timed = self.timed(&diagram, limits);
@@ -127,9 +136,9 @@ impl Diagrams {
 
     /// Gives a link another diagram, with the limits that it sets.
     pub fn replace(&mut self, link: u32, diagram: Diagram, limits: Limits)
-        requires limits { limits_of diagram self.old.step ≡ Ok limits }
+        requires limits { limits_of diagram self.old.pace.step.0 self.old.pace.carry ≡ Ok limits }
         requires link { link < length self.old.diagrams }
-        ensures step { self.new.step ≡ self.old.step }
+        ensures pace { self.new.pace ≡ self.old.pace }
         ensures diagrams { self.new.diagrams ≡ slice_set self.old.diagrams link diagram }
         ensures room { self.new.room ≡ self.old.room }
     {
@@ -140,12 +149,12 @@ impl Diagrams {
 
     /// An equal one, on the same allocator.
     pub fn try_copy(&self) -> Result<Diagrams, NoMemory>
-        ensures step { IfOk result (λ copy. copy.step ≡ self.now.step) }
+        ensures pace { IfOk result (λ copy. copy.pace ≡ self.now.pace) }
         ensures diagrams { IfOk result (λ copy. copy.diagrams ≡ self.now.diagrams) }
     {
         let alloc = *self.diagrams.allocator();
         Ok(Diagrams {
-            step: self.step,
+            pace: self.pace,
             diagrams: Vec::from_slice(alloc, self.diagrams.as_slice())?,
             timed: Vec::from_slice(alloc, self.timed.as_slice())?,
         })

@@ -255,7 +255,7 @@ impl Parts {
         let Some(link) = self.network.find_link(name) else {
             return Err(EditCause::UnknownName);
         };
-        match diagram.limits(self.setup.step) {
+        match diagram.limits(self.setup.step, self.setup.carry) {
             Ok(limits) => return Ok(self.change_diagram(link.0, diagram, limits)),
             Err(fault) => return Err(EditCause::Diagram(fault)),
         }

@@ -64,7 +64,7 @@ impl Parts {
             alloc,
             setup,
             network: Network::of_most(alloc, setup.most_links),
-            diagrams: Diagrams::new(alloc, setup.step),
+            diagrams: Diagrams::new(alloc, setup.step, setup.carry),
             destinations: Destinations::new(alloc),
             demand: Demand::of_most(alloc, setup.slots, setup.most_demand_rows),
             splits: Splits::of_most(alloc, setup.slots, setup.most_split_rows),

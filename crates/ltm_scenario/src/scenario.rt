@@ -178,7 +178,7 @@ impl Scenario {
     pub fn limits(&self, link: LinkId) -> Limits
         requires { link.0 < length self.now.network.links }
         ensures { (diagram : Diagram) → slice_get self.now.diagrams link.0 ≡ Some diagram
-            → limits_of diagram self.now.setup.step.0 ≡ Ok result }
+            → limits_of diagram self.now.setup.step.0 self.now.setup.carry ≡ Ok result }
     {
         self.parts.diagrams.limits(link.0)
     }
@@ -188,7 +188,7 @@ impl Scenario {
         requires { link.0 < length self.now.network.links }
         ensures { (diagram : Diagram) → (limits : Limits)
             → slice_get self.now.diagrams link.0 ≡ Some diagram
-            → limits_of diagram self.now.setup.step.0 ≡ Ok limits
+            → limits_of diagram self.now.setup.step.0 self.now.setup.carry ≡ Ok limits
             → AreDelays self.now.setup.step.0 limits result }
     {
         self.parts.diagrams.delays(link.0)

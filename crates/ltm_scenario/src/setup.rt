@@ -25,7 +25,8 @@ pub const DEFAULT_CELLS: u32 = 54_000_000;
 /// The most destinations of such a case.
 pub const DEFAULT_DESTINATIONS: u32 = 64;
 
-/// How long a slot is, how many there are, what leaves an origin in one, how large the case may be, and how nodes move.
+/// How long a slot is, how many there are, what leaves an origin in one, how large the case may be, and how nodes move and links
+/// round their capacity.
 #[derive(Clone, Copy, Debug, PartialEq, Eq)]
 pub struct Setup {
     /// The length of a slot, 1 to 60,000 ms.
@@ -46,6 +47,8 @@ pub struct Setup {
     pub most_destinations: u32,
     /// Whether what moves through a turn is floored for the turn, and not for each destination.
     pub by_turn: bool,
+    /// Whether what is left over of a link's capacity, rounded down, is carried to the next slot.
+    pub carry: bool,
 }
 
 /// Why a setup is none.
@@ -80,6 +83,7 @@ impl Setup {
             most_links: DEFAULT_LINKS,
             most_destinations: DEFAULT_DESTINATIONS,
             by_turn: false,
+            carry: false,
         }
     }
 

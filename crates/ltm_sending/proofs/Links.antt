@@ -37,7 +37,7 @@ pub record HasRead (s : Setting) (c : Counts) (l t m up down : ℕ) (reached by 
   pub same_step : step ≡ s.step
   pub same_free : free ≡ s.free_time l
   pub gone : left ≡ total m (c down) t
-  pub same_room : room ≡ s.capacity l
+  pub same_room : room ≡ s.capacity l t
   pub least : goal ≡ min reached (left + room)
 
 goal_is : (s : Setting) (c : Counts) (l t : ℕ) (reached by step free left room goal : ℕ) → HasRead s c l t s.destinations (up_of l) (down_of l) reached by step free left room goal → goal ≡ link_goal s c l t
@@ -62,7 +62,7 @@ found_at s c l t by left v x ready below within is_left =
       entered = below;
       gone = is_left;
       over = omega (arith, ready.sum);
-      few = omega (arith, v.small.capacities l x);
+      few = omega (arith, v.small.capacities l t x);
       sends = λ d y. ap (λ (z : ℕ). limited (s.exit_limit l t) z (link_first s c l t d)) whole ∙ ap (limited (s.exit_limit l t) (goal - left)) (rest d y);
     }
 
@@ -137,11 +137,11 @@ has_room s c l t m up down ago by step wave entered storage ready e is_up is_dow
     (subst (λ (g : ℕ). HasReadBack s c l t m (up_of l) g ago by step wave entered storage) is_down
     (subst (λ (g : ℕ). HasReadBack s c l t m g down ago by step wave entered storage) is_up has)))
 
-pub receives : (s : Setting) (c : Counts) (l t : ℕ) (ago entered storage capacity entry room least out : ℕ) → HasRoom s c l t ago entered storage → capacity ≡ s.capacity l → entry ≡ s.entry_limit l t →
+pub receives : (s : Setting) (c : Counts) (l t : ℕ) (ago entered storage capacity entry room least out : ℕ) → HasRoom s c l t ago entered storage → capacity ≡ s.capacity l t → entry ≡ s.entry_limit l t →
     room ≡ ago + storage - entered → least ≡ min entry room → out ≡ min capacity least → out ≡ receiving s c l t
 receives s c l t ago entered storage capacity entry room least out has e f g h k =
     k ∙ (ap (λ (z : ℕ). min z least) e
-    ∙ ap (min (s.capacity l)) (h ∙ (ap (λ (z : ℕ). min z room) f ∙ ap (min (s.entry_limit l t)) (g ∙ has.takes))))
+    ∙ ap (min (s.capacity l t)) (h ∙ (ap (λ (z : ℕ). min z room) f ∙ ap (min (s.entry_limit l t)) (g ∙ has.takes))))
 
 -- where the units that wait end, from the position of the slot
 end_by : (s : Setting) (c : Counts) (l t m up : ℕ) (goal by left at end : ℕ) → IsLinkReady s c l t → m ≡ s.destinations → WaitOnLink s c l t m goal by left → up ≡ up_of l → at ≡ position s c l t → end ≡ min at by →

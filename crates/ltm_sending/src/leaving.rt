@@ -14,7 +14,7 @@ use crate::ago::total_ago;
 use ltm_curve::{Curves, Kind};
 use ltm_loading::{down_of, links_are_ready, up_of};
 use ltm_scenario::Scenario;
-use ltm_setting::{delays, is_setting, limits, link_count, step};
+use ltm_setting::{capacity, delays, is_setting, link_count, step};
 use ltm_units::LinkId;
 
 /// Units that may leave in the order in which they entered: how many ever may, a boundary by which all of these had
@@ -51,13 +51,13 @@ pub(crate) fn waiting_on<K: Kind>(
         (destinations_of curves.now) result.goal result.by result.left }
 {
     links_are_ready();
-    let limits = limits(scenario, link);
+    let capacity = capacity(scenario, link, slot);
     let _links = link_count(scenario);
     let up = up_of(link);
     let free = delays(scenario, link).free;
     let ago = total_ago::<K>(curves, up, slot, free, step(scenario));
     let left = K::total(curves, down_of(link), slot);
-    let goal = ago.total.min(left + limits.capacity);
+    let goal = ago.total.min(left + capacity);
     Waiting {
         goal,
         by: ago.by,

@@ -265,5 +265,5 @@ pub fn link_takes<K: Kind>(scenario: &Scenario, curves: &Curves, link: LinkId, s
     let entered = K::total(curves, up, slot);
     let room = ago.total + limits.storage - entered;
     let entry = entry_limit(scenario, link, slot);
-    limits.capacity.min(entry.min(room))
+    limits.capacity_at(slot).min(entry.min(room))
 }

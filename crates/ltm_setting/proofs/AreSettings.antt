@@ -14,7 +14,9 @@ use Rattle.ltm_diagram.specs.declared.diagram.Diagram.{Diagram}
 use Rattle.ltm_diagram.specs.declared.diagram.Limits.{Limits}
 use Rattle.ltm_diagram.specs.declared.diagram.DiagramFault.{DiagramFault}
 use Rattle.ltm_diagram.specs.Limits.{limits_of}
+use Rattle.ltm_diagram.specs.Passing.{capacity_in}
 use Rattle.ltm_diagram.specs.InRange.{AreInRange, LimitsInRange}
+use Rattle.ltm_diagram.proofs.Passing.{either_in}
 use Rattle.ltm_demand.specs.declared.row.DemandRow.{DemandRow}
 use Rattle.ltm_demand.specs.Produced.{by_end}
 use Rattle.ltm_splits.specs.Weights.{AreWeights}
@@ -36,8 +38,16 @@ limits_in_range : (s : ScenarioData) → LimitsInRange → IsScenario s → (l :
 limits_in_range s ranges is l below =
     let d : Diagram = record { length_m = 0; free_kmh = 0; wave_kmh = 0; jam_per_km = 0 } in
     let there : l < length s.diagrams = omega (arith, is.diagram_for_each) in
-    subst (λ (o : Option Diagram). AreInRange s.setup.step.0 (set_by s.setup.step.0 o)) (sym (slice_get-get_or s.diagrams l d there))
-    (set_limits (AreInRange s.setup.step.0) (limits_of (get_or s.diagrams l d) s.setup.step.0) (is.limits l d there) (λ limits e. ranges (get_or s.diagrams l d) s.setup.step.0 limits e))
+    subst (λ (o : Option Diagram). AreInRange s.setup.step.0 (set_by s.setup.step.0 s.setup.carry o)) (sym (slice_get-get_or s.diagrams l d there))
+    (set_limits (AreInRange s.setup.step.0) (limits_of (get_or s.diagrams l d) s.setup.step.0 s.setup.carry) (is.limits l d there) (λ limits e. ranges (get_or s.diagrams l d) s.setup.step.0 s.setup.carry limits e))
+
+-- no slot passes more than a thousandth above another
+even : (limits : Limits) (t k : ℕ) → limits.rest < limits.whole → capacity_in limits t ≤ capacity_in limits k + 1
+even limits t k small =
+    elim (either_in limits t small) [
+      | inl one ↦ elim (either_in limits k small) [ inl other ↦ omega (arith, one, other) | inr other ↦ omega (arith, one, other.0) ]
+      | inr one ↦ elim (either_in limits k small) [ inl other ↦ omega (arith, one.0, other) | inr other ↦ omega (arith, one.0, other.0) ]
+    ]
 
 same_node : (n u : ℕ) → (n == u) ≡ true → n ≡ u
 same_node n u h = grind (arith, nat_tests)
@@ -105,12 +115,13 @@ is_setting s places ranges rises is =
         few_ins = λ u x. is.network.few_in u;
         few_outs = λ u x. is.network.few_out u;
         few_destinations = omega (arith, is.few_destinations, is.setup.destinations_most);
-        capacities = λ l x. (limits l x).capacity_most;
+        capacities = λ l t x. (limits l x).slot_most t;
         origin_capacity = is.setup.capacity_most;
         weights = λ u d t j x m y z. small_in_force (row_in_force s.splits u d t) j (in_force (λ row. AreWeights row.1) (All (λ w. w < 2 ^ 32)) s.splits u d t (λ row have test. have.2) is.weights);
       };
       some_step = is.setup.step_least;
-      some_capacity = λ l x. (limits l x).capacity_least;
+      some_capacity = λ l t x. (limits l x).slot_least t;
+      even_capacity = λ l t k x. even (limits_at s l) t k (limits l x).rest;
       some_origin_capacity = is.setup.capacity_least;
       free_time = λ l x. (limits l x).free_least;
       wave_time = λ l x. (limits l x).wave_least;

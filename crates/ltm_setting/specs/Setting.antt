@@ -1,11 +1,12 @@
 -- What a loading reads of a scenario.
-use Rattle.std.specs.Prelude.{ℕ, ◌-◌, ◌==◌, if◌then◌else◌, length, slice_get, slice_index, List, Option, Some, None, Result, Ok, Err}
+use Rattle.std.specs.Prelude.{ℕ, ◌-◌, ◌==◌, if◌then◌else◌, Bool, length, slice_get, slice_index, List, Option, Some, None, Result, Ok, Err}
 use Rattle.std.specs.Option.{option_map_or}
 use Rattle.ltm_network.specs.Network.{tail_of, head_of, in_links, out_links, in_link, out_link, in_place, out_place}
 use Rattle.ltm_diagram.specs.declared.diagram.Diagram.{Diagram}
 use Rattle.ltm_diagram.specs.declared.diagram.Limits.{Limits}
 use Rattle.ltm_diagram.specs.declared.diagram.DiagramFault.{DiagramFault}
 use Rattle.ltm_diagram.specs.Limits.{limits_of}
+use Rattle.ltm_diagram.specs.Passing.{capacity_in}
 use Rattle.ltm_demand.specs.declared.row.DemandRow.{DemandRow}
 use Rattle.ltm_demand.specs.Produced.{by_end}
 use Rattle.ltm_splits.specs.Rows.{SplitRow, row_in_force}
@@ -16,20 +17,20 @@ use Rattle.ltm_loading.specs.Setting.{Setting}
 
 -- the limits of a diagram that sets none
 abbrev pub no_limits : Limits
-no_limits = record { free_ms = 0; wave_ms = 0; capacity = 0; storage = 0 }
+no_limits = record { free_ms = 0; wave_ms = 0; capacity = 0; rest = 0; whole = 1; storage = 0 }
 
 abbrev pub or_no_limits : Result Limits DiagramFault → Limits
 or_no_limits (Ok limits) = limits
 or_no_limits (Err fault) = no_limits
 
--- the limits that a diagram sets at a step
-abbrev pub set_by : ℕ → Option Diagram → Limits
-set_by step None = no_limits
-set_by step (Some diagram) = or_no_limits (limits_of diagram step)
+-- the limits that a diagram sets at a step, with what is left over of capacities carried or not
+abbrev pub set_by : ℕ → Bool → Option Diagram → Limits
+set_by step carry None = no_limits
+set_by step carry (Some diagram) = or_no_limits (limits_of diagram step carry)
 
 -- the limits of a link
 abbrev pub limits_at : ScenarioData → ℕ → Limits
-limits_at s link = set_by s.setup.step.0 (slice_get s.diagrams link)
+limits_at s link = set_by s.setup.step.0 s.setup.carry (slice_get s.diagrams link)
 
 -- what a node has produced of a destination by a boundary: nothing by the first, and by each later one what its demand
 -- has produced by the end of the slot before
@@ -61,7 +62,7 @@ setting_of s = record {
   out_place = out_place s.network;
   free_time = λ l. (limits_at s l).free_ms;
   wave_time = λ l. (limits_at s l).wave_ms;
-  capacity = λ l. (limits_at s l).capacity;
+  capacity = λ l. capacity_in (limits_at s l);
   storage = λ l. (limits_at s l).storage;
   entry_limit = limit_at s.entry;
   exit_limit = limit_at s.exit;

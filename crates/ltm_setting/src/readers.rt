@@ -1,6 +1,7 @@
 //! The numbers of a setting, read from a scenario.
 ghost use Rattle.std.specs.Prelude.{◌≡◌, ◌≤◌, ◌<◌, ℕ, length, slice_index, IfSome, Some, None, All, map};
 ghost use Rattle.ltm_diagram.specs.Delays.{IsDelay};
+ghost use Rattle.ltm_diagram.specs.Passing.{capacity_in};
 ghost use Rattle.ltm_curve.specs.Counts.{total};
 ghost use Rattle.ltm_loading.specs.Setting.{Setting};
 ghost use Rattle.ltm_setting.specs.Setting.{setting_of};
@@ -145,15 +146,26 @@ pub fn limits(scenario: &Scenario, link: LinkId) -> Limits
     requires { IsLink scenario.now link.0 }
     ensures free_time { result.free_ms ≡ (setting_of scenario.now).free_time link.0 }
     ensures wave_time { result.wave_ms ≡ (setting_of scenario.now).wave_time link.0 }
-    ensures capacity { result.capacity ≡ (setting_of scenario.now).capacity link.0 }
+    ensures capacity { (t : ℕ) → capacity_in result t ≡ (setting_of scenario.now).capacity link.0 t }
     ensures storage { result.storage ≡ (setting_of scenario.now).storage link.0 }
     ensures small_free_time { result.free_ms ≤ longest_time }
     ensures small_wave_time { result.wave_ms ≤ longest_time }
     ensures small_storage { result.storage ≤ most_on_link }
+    ensures small_capacity { result.capacity ≤ most_in_slot }
+    ensures rest { result.rest < result.whole }
 {
     limits_in_range();
     let _diagram = scenario.diagram(link);
     scenario.limits(link)
+}
+
+/// The most that enters or leaves a link in a slot by its diagram, in units.
+#[inline]
+pub fn capacity(scenario: &Scenario, link: LinkId, slot: u32) -> u64
+    requires { IsLink scenario.now link.0 }
+    ensures { result ≡ (setting_of scenario.now).capacity link.0 slot }
+{
+    limits(scenario, link).capacity_at(slot)
 }
 
 /// Free-flow time and wave time of a link, counted in slots.

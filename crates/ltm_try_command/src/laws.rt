@@ -4,7 +4,7 @@ ghost use Rattle.ltm_try_command.specs.Laws.{OneTrial};
 use ltm_loading::one_loading;
 use ltm_setting::scenarios_are_settings;
 
-/// Two numbers have one report, so what is told of a trial is a function of them.
+/// Two numbers have exactly one report: the report of a trial is a function of them.
 pub fn one_trial()
     ensures { OneTrial }
 {

@@ -77,7 +77,7 @@ abbrev sends_of : Setting → Counts → ℕ → ℕ → List ℕ
 sends_of s c u t = grid (arms_of s u) s.destinations (sending s c u t)
 
 abbrev limits_of : Setting → Counts → ℕ → ℕ → List ℕ
-limits_of s c u t = list_below (s.outs u) (λ j. receiving s c (s.out_link u j) t) ++ (list_below (arms_of s u) (arm_capacity s u) ++ grid s.destinations (s.outs u) (λ d j. s.weight u d t j))
+limits_of s c u t = list_below (s.outs u) (λ j. receiving s c (s.out_link u j) t) ++ (list_below (arms_of s u) (arm_capacity s u t) ++ grid s.destinations (s.outs u) (λ d j. s.weight u d t j))
 
 joined : (a l e r b : List ℕ) → a ++ (l ++ (e ++ (r ++ b))) ≡ a ++ ((l ++ (e ++ r)) ++ b)
 joined a l e r b = sym (ap (λ z. a ++ z) (append_assoc l (e ++ r) b ∙ ap (λ z. l ++ z) (append_assoc e r b)))
@@ -100,14 +100,14 @@ pub no_counts : (s : Setting) (c : Counts) (u t : ℕ) → row_without_counts s 
 no_counts s c u t = without s c u t (λ i d. c (arm_group s u i) d t) (λ j d. c (up_of (s.out_link u j)) d t) (λ k. arrived_by s c (s.own u) t)
 
 -- the limits of a row
-pub limits_in : (s : Setting) (c : Counts) (u t : ℕ) → slice_range (uncounted_row s c u t) (supplies_begin (shape_at s u)) (weights_begin (shape_at s u)) ≡ supply_part s c u t ++ capacity_part s u
+pub limits_in : (s : Setting) (c : Counts) (u t : ℕ) → slice_range (uncounted_row s c u t) (supplies_begin (shape_at s u)) (weights_begin (shape_at s u)) ≡ supply_part s c u t ++ capacity_part s u t
 limits_in s c u t =
     let none : List ℕ = blocks s u (λ i d. 0) (λ j d. 0) (λ k. 0) in
     let shape : NodeShape = shape_at s u in
     ap (λ (z : List ℕ). slice_range z (supplies_begin shape) (weights_begin shape)) (in_row s c u t (λ i d. 0) (λ j d. 0) (λ k. 0))
-    ∙ limits_written shape (sends_of s c u t) none (supply_part s c u t) (capacity_part s u) (weights_part s u t)
+    ∙ limits_written shape (sends_of s c u t) none (supply_part s c u t) (capacity_part s u t) (weights_part s u t)
     (length-grid (arms_of s u) s.destinations (sending s c u t)) (length-blocks s u (λ i d. 0) (λ j d. 0) (λ k. 0))
-    (length-list_below (s.outs u) (λ j. receiving s c (s.out_link u j) t)) (length-list_below (arms_of s u) (arm_capacity s u))
+    (length-list_below (s.outs u) (λ j. receiving s c (s.out_link u j) t)) (length-list_below (arms_of s u) (arm_capacity s u t))
 
 -- zeros in place of the counts are nothing to what is kept
 without_zeros : (shape : NodeShape) (row : List ℕ) → counts_begin shape ≤ length row → without_counts shape (with_no_counts shape row) ≡ without_counts shape row

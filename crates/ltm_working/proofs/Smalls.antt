@@ -43,7 +43,7 @@ grid_small h w f small = elim (cases_lt 0 w) [
 pub row_small : (s : Setting) (c : Counts) (t u : ℕ) → IsSetting s → IsFront s c t → t < s.slots → u < s.nodes → AreSmall (pair_row s c u t)
 row_small s c t u v f y x =
     let sends : (i d : ℕ) → i < arms_of s u → d < s.destinations → sending s c u t i d < 2 ^ 32 = λ i d l m.
-    omega (arith, le-sum_below s.destinations (sending s c u t i) d m, arm_sent s c t u i v f y x l, arm_capacity_small s u i v x) in
+    omega (arith, le-sum_below s.destinations (sending s c u t i) d m, arm_sent s c t u i v f y x l, arm_capacity_small s u t i v x) in
     let lefts : (i d : ℕ) → i < arms_of s u → d < s.destinations → c (arm_group s u i) d t < 2 ^ 32 = λ i d l m.
     omega (arith, arm_count_small s c t u i d v f (omega arith) x l m, v.small.few_slots) in
     let entereds : (j d : ℕ) → j < s.outs u → d < s.destinations → c (up_of (s.out_link u j)) d t < 2 ^ 32 = λ j d l m.
@@ -54,10 +54,10 @@ row_small s c t u v f y x =
     let p3 : List ℕ = grid (s.outs u) s.destinations (λ j d. c (up_of (s.out_link u j)) d t) in
     let p4 : List ℕ = list_below 1 (λ k. arrived_by s c (s.own u) t) in
     let p5 : List ℕ = list_below (s.outs u) (λ j. receiving s c (s.out_link u j) t) in
-    let p6 : List ℕ = list_below (arms_of s u) (arm_capacity s u) in
+    let p6 : List ℕ = list_below (arms_of s u) (arm_capacity s u t) in
     let p7 : List ℕ = grid s.destinations (s.outs u) (λ d j. s.weight u d t j) in
-    let s5 : AreSmall p5 = list_small (s.outs u) (λ j. receiving s c (s.out_link u j) t) (λ j l. omega (arith, v.small.capacities (s.out_link u j) (v.network.out_link_is_link u j x l))) in
-    let s6 : AreSmall p6 = list_small (arms_of s u) (arm_capacity s u) (λ i l. omega (arith, arm_capacity_small s u i v x)) in
+    let s5 : AreSmall p5 = list_small (s.outs u) (λ j. receiving s c (s.out_link u j) t) (λ j l. omega (arith, v.small.capacities (s.out_link u j) t (v.network.out_link_is_link u j x l))) in
+    let s6 : AreSmall p6 = list_small (arms_of s u) (arm_capacity s u t) (λ i l. omega (arith, arm_capacity_small s u t i v x)) in
     let s7 : AreSmall p7 = grid_small s.destinations (s.outs u) (λ d j. s.weight u d t j) (λ d j m l. omega (arith, v.small.weights u d t j x m y l)) in
     both_small p1 (p2 ++ (p3 ++ (p4 ++ (p5 ++ (p6 ++ p7))))) (grid_small (arms_of s u) s.destinations (sending s c u t) sends)
     (both_small p2 (p3 ++ (p4 ++ (p5 ++ (p6 ++ p7)))) (grid_small (arms_of s u) s.destinations (λ i d. c (arm_group s u i) d t) lefts)

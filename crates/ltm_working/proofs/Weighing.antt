@@ -41,13 +41,13 @@ use Rattle.ltm_repair.proofs.Networks.{shape_same}
 
 -- ---- what a pair reads but for its counts: its amounts, and then its weights
 abbrev pub amounts_part : Setting → Counts → ℕ → ℕ → List ℕ
-amounts_part s c u t = sending_part s c u t ++ (supply_part s c u t ++ capacity_part s u)
+amounts_part s c u t = sending_part s c u t ++ (supply_part s c u t ++ capacity_part s u t)
 
 pub row_parts : (s : Setting) (c : Counts) (u t : ℕ) → row_without_counts s u (pair_row s c u t) ≡ amounts_part s c u t ++ weights_part s u t
 row_parts s c u t =
     let a : List ℕ = sending_part s c u t in
     let b : List ℕ = supply_part s c u t in
-    let d : List ℕ = capacity_part s u in
+    let d : List ℕ = capacity_part s u t in
     let e : List ℕ = weights_part s u t in
     no_counts s c u t ∙ sym (append_assoc a (b ++ d) e ∙ ap (λ (z : List ℕ). a ++ z) (append_assoc b d e))
 
@@ -55,11 +55,11 @@ pub length-amounts_part : (s : Setting) (c : Counts) (u t : ℕ) → length (amo
 length-amounts_part s c u t =
     omega (
       arith,
-      length-append (sending_part s c u t) (supply_part s c u t ++ capacity_part s u),
-      length-append (supply_part s c u t) (capacity_part s u),
+      length-append (sending_part s c u t) (supply_part s c u t ++ capacity_part s u t),
+      length-append (supply_part s c u t) (capacity_part s u t),
       length-grid (arms_of s u) s.destinations (sending s c u t),
       length-list_below (s.outs u) (λ j. receiving s c (s.out_link u j) t),
-      length-list_below (arms_of s u) (arm_capacity s u),
+      length-list_below (arms_of s u) (arm_capacity s u t),
     )
 
 -- inputs in which the counts are not told are these, one behind the other

@@ -1,4 +1,7 @@
-use ltm_diagram::{Diagram, DiagramFault, Field, Limits, limits_in_range};
+use ltm_diagram::{
+    Diagram, DiagramFault, Field, Limits, all_slots_alike, limits_in_range, nothing_is_lost,
+    whole_or_one_more,
+};
 use ltm_units::Millis;
 
 fn diagram(length_m: u32, free_kmh: u32, wave_kmh: u32, jam_per_km: u32) -> Diagram {
@@ -15,6 +18,8 @@ fn limits(free_ms: u64, wave_ms: u64, capacity: u64, storage: u64) -> Limits {
         free_ms,
         wave_ms,
         capacity,
+        rest: 0,
+        whole: 1,
         storage,
     }
 }
@@ -34,8 +39,30 @@ fn limits_of_a_link(rt: HostRuntime) {
         ),
     ];
     for ((length, free, wave, jam), step, want) in cases {
-        assert!(rt; diagram(length, free, wave, jam).limits(Millis(step)) == Ok(want));
+        assert!(rt; diagram(length, free, wave, jam).limits(Millis(step), false) == Ok(want));
     }
+}
+
+// 14,285 and 5/7 thousandths a slot: 100 vehicles in seven slots.
+#[test]
+fn what_is_left_over_is_carried(rt: HostRuntime) {
+    nothing_is_lost();
+    all_slots_alike();
+    whole_or_one_more();
+    let road = diagram(500, 120, 20, 300);
+    let limits = road
+        .limits(Millis(10_000), true)
+        .expect(&rt, "the diagram sets limits");
+    assert!(rt; limits.rest < limits.whole && limits.capacity <= 32_000);
+    let most = [
+        14_285, 14_286, 14_286, 14_285, 14_286, 14_286, 14_286, 14_285,
+    ];
+    for (slot, want) in most.into_iter().enumerate() {
+        assert!(rt; limits.capacity_at(slot as u32) == want);
+    }
+    let widest = diagram(1000, 29, 29, 7945);
+    assert!(rt; widest.limits(Millis(1000), false).is_ok());
+    assert!(rt; widest.limits(Millis(1000), true) == Err(DiagramFault::CapacityOver));
 }
 
 #[test]
@@ -61,6 +88,6 @@ fn faults_of_a_diagram(rt: HostRuntime) {
     ];
     for ((length, free, wave, jam), step, want) in cases {
         assert!(rt; 1 <= step && step <= 60_000);
-        assert!(rt; diagram(length, free, wave, jam).limits(Millis(step)) == Err(want));
+        assert!(rt; diagram(length, free, wave, jam).limits(Millis(step), false) == Err(want));
     }
 }

@@ -88,7 +88,22 @@ const SIZES: &[(Base, Put, &str)] = &[
         "Setup 2 Range(5)",
     ),
     (
+        Base::Setup("step_ms,slots,origin_capacity,moves,carry\n1000,4,1,2,2\n"),
+        Put::Nothing,
+        "Setup 2 Range(4)",
+    ),
+    (
+        Base::Setup("step_ms,slots,origin_capacity,moves,carry\n1000,4,1,1,2\n"),
+        Put::Nothing,
+        "Setup 2 Range(5)",
+    ),
+    (
         Base::Setup("step_ms,slots,origin_capacity,moves,rows\n1000,4,1,1,1\n"),
+        Put::Nothing,
+        "Setup 1 Header",
+    ),
+    (
+        Base::Setup("step_ms,slots,origin_capacity,carry,moves\n1000,4,1,1,1\n"),
         Put::Nothing,
         "Setup 1 Header",
     ),
@@ -109,7 +124,7 @@ const SIZES: &[(Base, Put, &str)] = &[
     ),
     (
         Base::Setup(
-            "step_ms,slots,origin_capacity,rows,links,destinations,moves\n1000,4,1,1,1,1,1\n",
+            "step_ms,slots,origin_capacity,rows,links,destinations,moves,carry\n1000,4,1,1,1,1,1,1\n",
         ),
         Put::Nothing,
         "good",

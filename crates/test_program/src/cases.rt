@@ -6,6 +6,7 @@ use ltm_units::NoMemory;
 use std::alloc::{AllocError, Global};
 use std::process::Abort;
 use std::test::Fail;
+use std::thread::Threads;
 
 // One road of 20 m over four slots of a second, with half a vehicle in each of the first two.
 pub const SETUP: &str = "step_ms,slots,origin_capacity\n1000,4,1\n";
@@ -50,7 +51,8 @@ fn words_of(alloc: Global, texts: &[&str]) -> Result<Vec<String>, AllocError> {
 }
 
 /// Does what these words ask for.
-pub fn run(
+pub fn run<R: Threads + Sync>(
+    rt: &R,
     alloc: Global,
     words: &[&str],
     folder: &mut MemFolder,
@@ -58,11 +60,11 @@ pub fn run(
     output: &mut MemSink,
 ) -> Result<Status, Fail> {
     let words = words_of(alloc, words)?;
-    Ok(run_alone(alloc, words.as_slice(), folder, input, output))
+    Ok(run_alone(rt, alloc, words.as_slice(), folder, input, output))
 }
 
 /// These words over the folder and the script end with this status and write this text.
-pub fn expect_served<R: Abort + AllocGlobal>(
+pub fn expect_served<R: Abort + AllocGlobal + Threads + Sync>(
     rt: &R,
     words: &[&str],
     folder: &mut MemFolder,
@@ -73,14 +75,14 @@ pub fn expect_served<R: Abort + AllocGlobal>(
     let alloc = rt.alloc();
     let mut input = MemSource::create(alloc, script, 4096, &[])?;
     let mut output = MemSink::create(alloc, 1000, &[])?;
-    let got = run(alloc, words, folder, &mut input, &mut output)?;
+    let got = run(rt, alloc, words, folder, &mut input, &mut output)?;
     assert!(rt; got == status, "at {text}");
     assert!(rt; output.written() == text.as_bytes(), "at {text}");
     Ok(())
 }
 
 /// The same, with no script.
-pub fn expect<R: Abort + AllocGlobal>(
+pub fn expect<R: Abort + AllocGlobal + Threads + Sync>(
     rt: &R,
     words: &[&str],
     folder: &mut MemFolder,

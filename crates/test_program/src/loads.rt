@@ -84,7 +84,7 @@ fn tells_delays(rt: HostRuntime) -> Result<(), Fail> {
     expect(&rt, &["delay"], &mut folder, Status::BadCase, line)
 }
 
-// A queue from the start: the units of the first three slots arrive in time, the others are late.
+// A queue from the start: the units of the first three slots arrive in time, and 0.300 vehicles of the fourth; the others are late.
 #[test]
 fn tells_the_gap(rt: HostRuntime) -> Result<(), Fail> {
     let files = [
@@ -94,7 +94,7 @@ fn tells_the_gap(rt: HostRuntime) -> Result<(), Fail> {
         "node,destination,from_slot,weights\nn1,n3,0,a=1\nn2,n3,0,b=1\n",
     ];
     let text =
-        "version 0 spent 64.900000 least 65.275000 gap -0.375000 late 4.900\nto n3 spent 64.900000 least 65.275000 gap -0.375000 late 4.900\n";
+        "version 0 spent 64.900000 least 64.900000 gap 0.000000 late 4.600\nto n3 spent 64.900000 least 64.900000 gap 0.000000 late 4.600\n";
     let mut folder = folder_of(rt.alloc(), files, &[])?;
     expect(&rt, &["gap"], &mut folder, Status::Ok, text)?;
     expect(&rt, &["gap", "n3"], &mut folder, Status::Usage, USAGE)
@@ -194,7 +194,7 @@ fn faults_of_the_outside_are_told(rt: HostRuntime) -> Result<(), Fail> {
     for (failing, front) in [(1, ""), (3, "version 0 gene")] {
         let mut input = MemSource::create(alloc, b"", 1, &[])?;
         let mut output = MemSink::create(alloc, 7, &[failing])?;
-        let got = run(alloc, &["load"], &mut folder, &mut input, &mut output)?;
+        let got = run(&rt, alloc, &["load"], &mut folder, &mut input, &mut output)?;
         assert!(rt; got == Status::WriteFault, "at write {failing}");
         assert!(rt; output.written() == front.as_bytes(), "at write {failing}");
     }

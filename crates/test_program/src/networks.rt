@@ -6,6 +6,7 @@ use ltm_units::NoMemory;
 use std::alloc::Global;
 use std::process::Abort;
 use std::test::Fail;
+use std::thread::Threads;
 
 /// The files of a case, and what `load` writes of it.
 #[derive(Clone, Copy)]
@@ -63,7 +64,10 @@ fn files_of(alloc: Global, network: &Network) -> Result<MemFolder, NoMemory> {
 }
 
 /// The case is loaded, and the report is written.
-fn expect_report<R: Abort + AllocGlobal>(rt: &R, network: &Network) -> Result<(), Fail> {
+fn expect_report<R: Abort + AllocGlobal + Threads + Sync>(
+    rt: &R,
+    network: &Network,
+) -> Result<(), Fail> {
     let mut folder = files_of(rt.alloc(), network)?;
     expect(rt, &["load"], &mut folder, Status::Ok, network.report)
 }

@@ -5,6 +5,7 @@ use ltm_io::{MemFolder, MemSink, MemSource};
 use std::alloc::Global;
 use std::process::Abort;
 use std::test::Fail;
+use std::thread::Threads;
 
 /// A closure at the entry of the road in the first slot, a settle and the totals: lines of 83, 16 and 16 bytes.
 const SCRIPT: &str =
@@ -18,7 +19,7 @@ const TOTALS: &str = "version 0 generated 1.000 arrived 1.000 on_links 0.000 wai
 
 /// A run of the session ends with this status and has written so many bytes of the answers. Reads give 7 bytes, writes take
 /// 5, and these fail.
-fn expect_front<R: Abort + AllocGlobal>(
+fn expect_front<R: Abort + AllocGlobal + Threads + Sync>(
     rt: &R,
     folder: &mut MemFolder,
     reads: &[u64],
@@ -29,7 +30,14 @@ fn expect_front<R: Abort + AllocGlobal>(
     let alloc = rt.alloc();
     let mut input = MemSource::create(alloc, SCRIPT.as_bytes(), 7, reads)?;
     let mut output = MemSink::create(alloc, 5, writes)?;
-    let got = run(alloc, &["session", "0"], folder, &mut input, &mut output)?;
+    let got = run(
+        rt,
+        alloc,
+        &["session", "0"],
+        folder,
+        &mut input,
+        &mut output,
+    )?;
     let written = output.written();
     let is_front = ANSWERS.as_bytes().starts_with(written);
     assert!(rt;

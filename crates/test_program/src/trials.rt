@@ -4,9 +4,10 @@ use ltm_command::Status;
 use ltm_io::MemFolder;
 use std::process::Abort;
 use std::test::Fail;
+use std::thread::Threads;
 
 /// These words, over a folder without files, end with this status and write this text.
-fn expect_trial<R: Abort + AllocGlobal>(
+fn expect_trial<R: Abort + AllocGlobal + Threads + Sync>(
     rt: &R,
     words: &[&str],
     status: Status,

@@ -48,8 +48,9 @@ fn a_shut_entry_makes_vehicles_wait_once_it_is_settled(rt: HostRuntime) {
     expect_answers(&rt, rt.alloc(), Case::LongerRoad, script, output);
 }
 
-// By hand: who is produced at boundary 0 arrives after 2500 ms, who is at boundary 1 too, and who is at boundary 2 not by the
-// end: 1.25 and 1.5 vehicle seconds. Where the exit is shut in slot 2 the first arrives at 3001 ms and the second at 4000.
+// By hand: who is produced at boundary 0 arrives after 2500 ms, and who is at boundary 1 too: 1.25 vehicle seconds. Of slot 1
+// 0.250 vehicles arrive, the last at 4000 ms, and take the mean of 2.5 and 2 s; the others take 3 s: 1.3125 vehicle seconds. Where
+// the exit is shut in slot 2 the first arrives at 3001 ms and who is produced at boundary 1 at 4000, so all of slot 1 are late.
 #[test]
 fn the_gap_is_that_of_what_is_shown(rt: HostRuntime) {
     let script =
@@ -58,7 +59,7 @@ fn the_gap_is_that_of_what_is_shown(rt: HostRuntime) {
         {\"do\":\"settle\"}\n\
         {\"do\":\"gap\"}\n";
     let output = "accepted version 1\n\
-        version 0 spent 2.500000 least 2.750000 gap -0.250000 late 0.500\n\
+        version 0 spent 2.500000 least 2.562500 gap -0.062500 late 0.250\n\
         settled version 1 recomputed 2\n\
         version 1 spent 3.000000 least 3.000250 gap -0.000250 late 0.500\n";
     expect_answers(&rt, rt.alloc(), Case::LongerRoad, script, output);

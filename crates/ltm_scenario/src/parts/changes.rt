@@ -157,7 +157,7 @@ impl Parts {
     pub fn change_diagram(&mut self, link: u32, diagram: Diagram, limits: Limits) -> Undo
         requires parts { AreParts self.old }
         requires link { link < length (scenario_in self.old).network.links }
-        requires limits { limits_of diagram (scenario_in self.old).setup.step.0 ≡ Ok limits }
+        requires limits { limits_of diagram (scenario_in self.old).setup.step.0 (scenario_in self.old).setup.carry ≡ Ok limits }
         ensures done { scenario_in self.new ≡ with_diagram (scenario_in self.old) link diagram }
         ensures undo { Undoes (state_in self.old) (state_in self.new) result }
         ensures room { KeepsRoom (state_in self.old) (state_in self.new) }

@@ -43,7 +43,7 @@ impl Scenario {
             Ok(()) => {}
             Err(fault) => return Err(LinkFault::Network(fault)),
         }
-        let limits = match diagram.limits(self.parts.setup.step) {
+        let limits = match diagram.limits(self.parts.setup.step, self.parts.setup.carry) {
             Ok(limits) => limits,
             Err(fault) => return Err(LinkFault::Diagram(fault)),
         };
@@ -64,7 +64,7 @@ impl Scenario {
     ) -> Result<LinkId, NoMemory>
         requires free { HasNoSplitAt self.old (number_of self.old.network.nodes tail) }
         requires taken { checked self.old.network name tail head ≡ Ok tt }
-        requires limits { limits_of diagram self.old.setup.step.0 ≡ Ok limits }
+        requires limits { limits_of diagram self.old.setup.step.0 self.old.setup.carry ≡ Ok limits }
         ensures ok { OnOk result
             (self.new ≡ with_link_on self.old (linked_network self.old.network name tail head) diagram) }
         ensures number { IfOk result (λ link. link.0 ≡ length self.old.network.links) }

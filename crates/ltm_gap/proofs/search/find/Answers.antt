@@ -16,12 +16,12 @@ returns-in_default c =
         one_for_each = c.clear.ensures.one_for_each ∙ c.requires.one_for_each;
         small = λ node time at. absurd (never (sym (c.clear.ensures.arrivals node) ∙ at));
       };
-      earliest = has_earliest s c.args.loading.now c.args.origin.0 c.args.boundary None (arrivals_of c.clear.new.self) c.earliest_is_first.ensures c.is_setting.ensures.setting c.requires.origin c.requires.boundary
+      earliest = has_earliest s c.args.loading.now c.args.origin.0 c.args.slot c.args.number None (arrivals_of c.clear.new.self) c.earliest_is_first.ensures c.is_setting.ensures.setting c.requires.origin
           c.in_default.ensures (λ node low. ap millis_of (c.clear.ensures.arrivals node));
     }
 
 pub run-requires-clause-start : goal.run-requires-clause-start
-run-requires-clause-start c = start_within (setting_of c.args.scenario.now) c.args.loading.now c.args.origin.0 c.args.boundary c.in-Some.start c.requires.suits c.in-Some.ensures
+run-requires-clause-start c = start_within (setting_of c.args.scenario.now) c.args.loading.now c.args.origin.0 c.args.slot c.args.number c.in-Some.start c.requires.suits c.in-Some.ensures
 
 pub returns : goal.returns
 returns c =
@@ -32,6 +32,6 @@ returns c =
         one_for_each = c.in_ok-run.ensures.one_for_each;
         small = small_by s a c.is_setting.ensures.setting.small.few_slots (subst (λ n. n ≤ 60000) c.step-step.ensures.value c.step-step.ensures.small) c.in_ok-run.ensures.by;
       };
-      earliest = has_earliest s c.args.loading.now c.args.origin.0 c.args.boundary (Some c.in-Some.start) a c.earliest_is_first.ensures c.is_setting.ensures.setting c.requires.origin c.requires.boundary
+      earliest = has_earliest s c.args.loading.now c.args.origin.0 c.args.slot c.args.number (Some c.in-Some.start) a c.earliest_is_first.ensures c.is_setting.ensures.setting c.requires.origin
           c.in-Some.ensures c.in_ok-run.ensures.earliest;
     }

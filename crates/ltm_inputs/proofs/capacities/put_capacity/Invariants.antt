@@ -5,4 +5,4 @@ use Rattle.ltm_inputs.proofs.capacities.put_capacity.Given as goal
 abbrev pub invariant-loop-arm : goal.invariant-loop-arm
 invariant-loop-arm l =
     let s = setting_of l.scenario in
-    (i : ℕ) → i < l.arm → slice_index l.into i ≡ s.capacity (s.in_link l.node.0 i)
+    (i : ℕ) → i < l.arm → slice_index l.into i ≡ s.capacity (s.in_link l.pair.node.0 i) l.pair.slot

@@ -76,22 +76,24 @@ returns-then-outs-ne0-clause-capacities g c =
     let s = setting_of c.args.front.scenario.now in
     let links = c.in_links-links.result.now in
     let u = c.args.pair.node.0 in
+    let t = c.args.pair.slot in
     let xs : List ℕ = c.put_links_at.new.capacity in
     let some : 0 < s.outs u = omega (arith, c.requires.outs) in
     let arms : length xs ≡ arms_of s u = omega (arith, c.put_links_at.auto.capacity, c.requires.arms) in
     let all : length links ≡ s.ins u = c.in_links-links.ensures.count in
-    list_from (arms_of s u) (arm_capacity s u) _ (length-set xs (length links) c.origin_capacity.result ∙ arms) (λ i l.
-    set_next xs (length links) c.origin_capacity.result (arm_capacity s u)
-    (λ k m. c.put_links_at.ensures.capacities k m ∙ (ap s.capacity (c.in_links-links.ensures.links k m) ∙ sym (pick_first k (s.ins u) (s.capacity (s.in_link u k)) s.origin_capacity (omega (arith, all))))) (omega (arith, some, arms, all))
-    (c.origin_capacity.ensures.value ∙ sym (pick_second (length links) (s.ins u) (s.capacity (s.in_link u (length links))) s.origin_capacity (omega (arith, all)))) i (omega (arith, some, all)))
+    list_from (arms_of s u) (arm_capacity s u t) _ (length-set xs (length links) c.origin_capacity.result ∙ arms) (λ i l.
+    set_next xs (length links) c.origin_capacity.result (arm_capacity s u t)
+    (λ k m. c.put_links_at.ensures.capacities k m ∙ (ap (λ l. s.capacity l t) (c.in_links-links.ensures.links k m) ∙ sym (pick_first k (s.ins u) (s.capacity (s.in_link u k) t) s.origin_capacity (omega (arith, all))))) (omega (arith, some, arms, all))
+    (c.origin_capacity.ensures.value ∙ sym (pick_second (length links) (s.ins u) (s.capacity (s.in_link u (length links)) t) s.origin_capacity (omega (arith, all)))) i (omega (arith, some, all)))
 
 pub returns-else-outs-ne0-clause-capacities : goal.returns-else-outs-ne0-clause-capacities
 returns-else-outs-ne0-clause-capacities g c =
     let s = setting_of c.args.front.scenario.now in
     let links = c.in_links-links.result.now in
     let u = c.args.pair.node.0 in
+    let t = c.args.pair.slot in
     let xs : List ℕ = c.put_links_at.new.capacity in
     let none : s.outs u ≡ 0 = omega (arith, c.requires.outs) in
     let all : length links ≡ s.ins u = c.in_links-links.ensures.count in
-    list_from (arms_of s u) (arm_capacity s u) xs (omega (arith, c.put_links_at.auto.capacity, c.requires.arms)) (λ i l.
-    c.put_links_at.ensures.capacities i (omega (arith, none, all)) ∙ (ap s.capacity (c.in_links-links.ensures.links i (omega (arith, none, all))) ∙ sym (pick_first i (s.ins u) (s.capacity (s.in_link u i)) s.origin_capacity (omega (arith, none)))))
+    list_from (arms_of s u) (arm_capacity s u t) xs (omega (arith, c.put_links_at.auto.capacity, c.requires.arms)) (λ i l.
+    c.put_links_at.ensures.capacities i (omega (arith, none, all)) ∙ (ap (λ l. s.capacity l t) (c.in_links-links.ensures.links i (omega (arith, none, all))) ∙ sym (pick_first i (s.ins u) (s.capacity (s.in_link u i) t) s.origin_capacity (omega (arith, none)))))

@@ -41,6 +41,6 @@ loop-arm-preserved g c =
       positions = set_next c.loop-arm.positions i c.link_sends.result (λ j. position s counts (link_at links j) c.args.slot) c.loop-arm.invariant.positions at
           (c.link_sends.ensures.position ∙ ap (λ (z : ℕ). position s counts z c.args.slot) (link_item links i c.loop-arm-test.true));
       below = bounded_next c.loop-arm.positions i c.link_sends.result c.args.slot c.loop-arm.invariant.below at c.link_sends.ensures.below;
-      capacities = set_next c.loop-arm.capacity i c.limits-most.result.capacity (λ j. s.capacity (link_at links j)) c.loop-arm.invariant.capacities room
-          (c.limits-most.ensures.capacity ∙ ap s.capacity (link_item links i c.loop-arm-test.true));
+      capacities = set_next c.loop-arm.capacity i c.capacity-most.result (λ j. s.capacity (link_at links j) c.args.slot) c.loop-arm.invariant.capacities room
+          (c.capacity-most.ensures ∙ ap (λ l. s.capacity l c.args.slot) (link_item links i c.loop-arm-test.true));
     }

@@ -11,5 +11,5 @@ invariant-loop-arm g l = record {
   filled : IsFilledTo l.into l.place l.arm (setting_of l.scenario).destinations (λ i d. link_sending (setting_of l.scenario) (counts_of l.curves) (link_at l.links i) l.slot d);
   positions : (i : ℕ) → i < l.arm → slice_index l.positions i ≡ position (setting_of l.scenario) (counts_of l.curves) (link_at l.links i) l.slot;
   below : (i : ℕ) → i < l.arm → slice_index l.positions i ≤ l.slot;
-  capacities : (i : ℕ) → i < l.arm → slice_index l.capacity i ≡ (setting_of l.scenario).capacity (link_at l.links i);
+  capacities : (i : ℕ) → i < l.arm → slice_index l.capacity i ≡ (setting_of l.scenario).capacity (link_at l.links i) l.slot;
 }

@@ -5,7 +5,7 @@ use Rattle.ltm_report.proofs.Gapped.{gap_told, case_told}
 use Rattle.ltm_report.proofs.gap_report.gap_report_of.Goals as goal
 
 pub returns : goal.returns
-returns c =
+returns g c =
     let s = setting_of c.args.scenario.now in
     let l = c.in_ok-loading.loading in
     let counts = counts_of c.in_ok-curves.curves in

@@ -1,4 +1,4 @@
-use Rattle.std.proofs.Common.{ℕ, arith, refl, sym, subst}
+use Rattle.std.proofs.Common.{ℕ, arith, refl, sym, subst, ◌∙◌}
 use Rattle.ltm_curve.specs.Table.{counts_of}
 use Rattle.ltm_diagram.specs.Delays.{IsDelay}
 use Rattle.ltm_setting.specs.Setting.{setting_of}
@@ -55,7 +55,7 @@ returns-clause-value g c =
       all = c.total-entered.ensures.total;
       same_storage = c.limits-limits.ensures.storage;
     }) in
-    receives (setting_of c.args.scenario.now) (counts_of c.args.curves.now) c.args.link.0 c.args.slot _ _ _ _ _ _ _ _ has c.limits-limits.ensures.capacity c.entry_limit-entry.ensures refl c.min.ensures c.min-2.ensures
+    receives (setting_of c.args.scenario.now) (counts_of c.args.curves.now) c.args.link.0 c.args.slot _ _ _ _ _ _ _ _ has (c.capacity_at.ensures ∙ c.limits-limits.ensures.capacity c.args.slot) c.entry_limit-entry.ensures refl c.min.ensures c.min-2.ensures
 
 pub returns-clause-small : goal.returns-clause-small
-returns-clause-small g c = omega (arith, c.is_setting.ensures.setting.small.capacities c.args.link.0 c.requires.link)
+returns-clause-small g c = omega (arith, c.is_setting.ensures.setting.small.capacities c.args.link.0 c.args.slot c.requires.link)

@@ -8,8 +8,8 @@ use Rattle.ltm_setting.specs.Setting.{setting_of, limits_at, set_by, or_no_limit
 use Rattle.ltm_setting.proofs.readers.delays.Goals as goal
 
 -- the limits of a link are those that its diagram sets
-limits_there : (s : ScenarioData) (link : ℕ) (diagram : Diagram) (limits : Limits) → slice_get s.diagrams link ≡ Some diagram → limits_of diagram s.setup.step.0 ≡ Ok limits → limits_at s link ≡ limits
-limits_there s link diagram limits here is = ap (set_by s.setup.step.0) here ∙ ap or_no_limits is
+limits_there : (s : ScenarioData) (link : ℕ) (diagram : Diagram) (limits : Limits) → slice_get s.diagrams link ≡ Some diagram → limits_of diagram s.setup.step.0 s.setup.carry ≡ Ok limits → limits_at s link ≡ limits
+limits_there s link diagram limits here is = ap (set_by s.setup.step.0 s.setup.carry) here ∙ ap or_no_limits is
 
 pub returns-clause-free : goal.returns-clause-free
 unfolding setting_of

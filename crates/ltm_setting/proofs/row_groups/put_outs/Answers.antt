@@ -1,7 +1,6 @@
-use Rattle.std.proofs.Common.{◌≡◌, ◌<◌, ◌+◌, ◌∙◌, ℕ, List, length, arith, ap, refl}
+use Rattle.std.proofs.Common.{◌≡◌, ◌+◌, ◌∙◌, ℕ, List, length, arith, ap, refl}
 use Rattle.ltm_curve.specs.First.{list_below}
 use Rattle.ltm_curve.proofs.Lists.{length-list_below}
-use Rattle.ltm_loading.specs.Groups.{up_of}
 use Rattle.ltm_loading.specs.Pairs.{arms_of}
 use Rattle.ltm_loading.specs.NodeGroups.{node_group}
 use Rattle.ltm_loading.proofs.NodeGroups.{at_out}

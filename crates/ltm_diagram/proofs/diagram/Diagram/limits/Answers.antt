@@ -5,4 +5,4 @@ use Rattle.ltm_diagram.proofs.diagram.Diagram.limits.Goals as goal
 
 pub returns-clause-in_range : goal.returns-clause-in_range
 unfolding limits_of
-returns-clause-in_range c = in_range c.args.self.now c.args.step.0 _ (search rules)
+returns-clause-in_range c = in_range c.args.self.now c.args.step.0 c.args.carry _ (search rules)

@@ -8,6 +8,6 @@ pub returns : goal.returns
 returns c = record {
   limits = λ diagram here.
       let there : slice_get c.self.inside.diagrams.items c.args.link ≡ Some diagram = ap (λ (v : DiagramsState). slice_get v.diagrams c.args.link) c.self.view_is ∙ here in
-      ap (λ (v : DiagramsState). limits_of diagram v.step) (sym c.self.view_is)
-      ∙ limits_beside c.self.inside.step.0 c.self.inside.diagrams.items c.self.inside.timed.items c.args.link diagram c.index.result.now c.self.invariant (subst (λ (v : DiagramsState). c.args.link < length v.diagrams) (sym c.self.view_is) c.requires) c.index.ensures there;
+      ap (λ (v : DiagramsState). limits_of diagram v.pace.step.0 v.pace.carry) (sym c.self.view_is)
+      ∙ limits_beside c.self.inside.pace.step.0 c.self.inside.pace.carry c.self.inside.diagrams.items c.self.inside.timed.items c.args.link diagram c.index.result.now c.self.invariant (subst (λ (v : DiagramsState). c.args.link < length v.diagrams) (sym c.self.view_is) c.requires) c.index.ensures there;
 }

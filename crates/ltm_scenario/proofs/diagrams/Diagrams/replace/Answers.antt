@@ -4,5 +4,5 @@ use Rattle.ltm_scenario.proofs.diagrams.Diagrams.replace.Goals as goal
 
 pub invariant_of-self : goal.invariant_of-self
 invariant_of-self c =
-    timed_set c.self.inside.step.0 c.self.inside.diagrams.items c.self.inside.timed.items c.args.link c.args.diagram c.timed-timed.result c.self.invariant
+    timed_set c.self.inside.pace.step.0 c.self.inside.pace.carry c.self.inside.diagrams.items c.self.inside.timed.items c.args.link c.args.diagram c.timed-timed.result c.self.invariant
     (search rules) (search rules)

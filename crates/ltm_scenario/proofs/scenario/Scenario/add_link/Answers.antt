@@ -14,4 +14,4 @@ pub returns-in-Err-limits-clause-cause : goal.returns-in-Err-limits-clause-cause
 returns-in-Err-limits-clause-cause c = λ _.
     refused_by_diagram c.args.self.now c.args.name c.args.tail c.args.head c.args.diagram c.in-Err-limits.fault
     (ap (λ (v : ScenarioData). checked v.network c.args.name c.args.tail c.args.head) (sym c.self.view_is) ∙ sym c.in-Ok.ensures)
-    (ap (λ (v : ScenarioData). limits_of c.args.diagram v.setup.step.0) (sym c.self.view_is) ∙ sym c.in-Err-limits.ensures.value)
+    (ap (λ (v : ScenarioData). limits_of c.args.diagram v.setup.step.0 v.setup.carry) (sym c.self.view_is) ∙ sym c.in-Err-limits.ensures.value)

@@ -1,0 +1,9 @@
+pub mod Lanes
+pub mod Sharing
+pub mod Modulo
+pub mod Moves
+pub mod Rows
+pub mod Grows
+pub mod Thin
+pub mod Sends
+pub mod Links

@@ -1,0 +1,13 @@
+use Rattle.std.proofs.Common.{◌≡◌, ℕ, ◌-◌, ◌<◌, ◌≤◌}
+use Rattle.ltm_standing.specs.Standing.{width_of, end_of, Keeps}
+use Rattle.ltm_standing.proofs.standing.Standing.seek_on.Given as goal
+
+abbrev pub invariant-loop-self : goal.invariant-loop-self
+invariant-loop-self l = record {
+  wide : width_of l.self ≡ width_of l.initial.self;
+  before : l.self.dead < l.self.next → l.self.base ≤ l.goal;
+  keeps : (k t : ℕ) → Keeps k t l.initial.self l.self;
+}
+
+abbrev pub decreases-loop-self : goal.decreases-loop-self
+decreases-loop-self l = end_of l.self - l.self.next

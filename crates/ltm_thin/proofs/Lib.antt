@@ -1,0 +1,4 @@
+pub mod Thinning
+pub mod Moving
+pub mod Sending
+pub mod Listing

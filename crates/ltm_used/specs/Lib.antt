@@ -1,0 +1,4 @@
+pub mod Closed
+pub mod Found
+pub mod Leading
+pub mod Lists
