@@ -5,19 +5,42 @@ the fault raises it.
 """
 from collections.abc import Iterable, Iterator
 
-from ..errors import Fault
+from ..errors import Fault, one_line
 from ..files import shown
-from ..formats import (HEADERS, MOST_CELLS, MOST_CELLS_ASKED, MOST_DEMAND_ROWS, MOST_DESTINATIONS,
-                       MOST_DESTINATIONS_ASKED, MOST_IN,
-                       MOST_LINKS, MOST_LINKS_ASKED, MOST_OUT, MOST_ROWS_ASKED, MOST_SLOTS, MOST_SLOT_UNITS,
-                       MOST_SPLIT_ROWS, MOST_STEP_MS,
-                       NAME_RULE, SETUP, SETUP_MORE, VEHICLES_RULE, WEIGHTS_RULE, WHOLE_RULE, count_text, headers_of,
-                       vehicles_text)
+from ..formats import (
+    HEADERS,
+    MOST_CELLS,
+    MOST_CELLS_ASKED,
+    MOST_DEMAND_ROWS,
+    MOST_DESTINATIONS,
+    MOST_DESTINATIONS_ASKED,
+    MOST_IN,
+    MOST_LINKS,
+    MOST_LINKS_ASKED,
+    MOST_OUT,
+    MOST_ROWS_ASKED,
+    MOST_SLOTS,
+    MOST_SLOT_UNITS,
+    MOST_SPLIT_ROWS,
+    MOST_STEP_MS,
+    NAME_RULE,
+    SETUP,
+    SETUP_MORE,
+    VEHICLES_RULE,
+    WEIGHTS_RULE,
+    WHOLE_RULE,
+    count_text,
+    headers_of,
+    vehicles_text,
+)
 from .cells import asked_for, memory_text
 
-KINDS = {"name": f"a name is {NAME_RULE}", "whole": f"a whole number is {WHOLE_RULE}",
-         "vehicles": f"vehicles are {VEHICLES_RULE}",
-         "weights": f"weights are {WEIGHTS_RULE}"}
+KINDS = {
+    "name": f"a name is {NAME_RULE}",
+    "whole": f"a whole number is {WHOLE_RULE}",
+    "vehicles": f"vehicles are {VEHICLES_RULE}",
+    "weights": f"weights are {WEIGHTS_RULE}",
+}
 SLOT_VEHICLES = MOST_SLOT_UNITS // 1000
 
 
@@ -28,9 +51,9 @@ class BadCase(Fault):
 
     def __init__(self, file: str, row: int, cause: str, rule: str, advice: str = "", field: int | None = None) -> None:
         self.file, self.row, self.cause, self.field = file, row, cause, field
-        self.rule, self.advice = rule, advice
+        self.rule, self.advice = one_line(rule), advice
         place = f"{file}.csv row {row}" if row else "the case"
-        super().__init__(f"{place}: {rule}" + (f" ({advice})" if advice else ""))
+        super().__init__(f"{place}: {self.rule}" + (f" ({advice})" if advice else ""))
 
     def line(self) -> str:
         """The line that the program writes."""
@@ -59,19 +82,31 @@ class TooLong(Fault):
 
 
 def header(file: str, found: list[str] | None) -> BadCase:
-    wanted = ",".join(HEADERS[file]) + (f", and behind it each of {', '.join(SETUP_MORE)} or not, in this order"
-                                        if file == "setup" else "")
+    wanted = ",".join(HEADERS[file]) + (
+        f", and behind it each of {', '.join(SETUP_MORE)} or not, in this order" if file == "setup" else ""
+    )
     if found is None:
-        return BadCase(file, 1, "Header", f"the file has no record, and its first is to be {wanted}",
-                       "write that header as the first line")
+        return BadCase(
+            file,
+            1,
+            "Header",
+            f"the file has no record, and its first is to be {wanted}",
+            "write that header as the first line",
+        )
     for is_so, told, advice in odd_headers(found):
         if is_so:
             return BadCase(file, 1, "Header", f"{told}, and the header is to be {wanted}", advice)
     if tuple(field.strip().lower() for field in found) in headers_of(file):
-        return BadCase(file, 1, "Header", f"the header is to be exactly {wanted}",
-                       "take out blanks, and write small letters")
-    return BadCase(file, 1, "Header", f"the header is to be exactly {wanted}, and it is {shown(','.join(found))}",
-                   "these fields, in this order")
+        return BadCase(
+            file, 1, "Header", f"the header is to be exactly {wanted}", "take out blanks, and write small letters"
+        )
+    return BadCase(
+        file,
+        1,
+        "Header",
+        f"the header is to be exactly {wanted}, and it is {shown(','.join(found))}",
+        "these fields, in this order",
+    )
 
 
 def odd_headers(found: list[str]) -> Iterator[tuple[bool, str, str]]:
@@ -91,8 +126,13 @@ def second_setup_record() -> BadCase:
 
 
 def width(file: str, row: int, found: int, wanted: int) -> BadCase:
-    return BadCase(file, row, "Width", f"the record has {found} field{'s' * (found != 1)}, and its header has {wanted}",
-                   "a field is missing" if found < wanted else "a comma, or a field, is one too many")
+    return BadCase(
+        file,
+        row,
+        "Width",
+        f"the record has {found} field{'s' * (found != 1)}, and its header has {wanted}",
+        "a field is missing" if found < wanted else "a comma, or a field, is one too many",
+    )
 
 
 def field(file: str, row: int, place: int, kind: str, text: str) -> BadCase:
@@ -108,12 +148,19 @@ def field_advice(kind: str, text: str) -> str:
     if text != text.strip():
         return "take out the blanks"
     if kind == "name":
-        return (f"it has {len(text)} letters: take a shorter one" if len(text) > 32 else "put _ or - for what a name"
-                " may not have")
+        return (
+            f"it has {len(text)} letters: take a shorter one"
+            if len(text) > 32
+            else "put _ or - for what a name may not have"
+        )
     if kind == "weights":
         return "as in a=1 b=3"
-    if kind == "vehicles" and text.count(".") == 1 and text.replace(".",
-                                                                    "").isdigit() and len(text.partition(".")[2]) > 3:
+    if (
+        kind == "vehicles"
+        and text.count(".") == 1
+        and text.replace(".", "").isdigit()
+        and len(text.partition(".")[2]) > 3
+    ):
         return "take three digits behind the point at most"
     if kind == "whole" and text.replace(".", "", 1).isdigit() and "." in text:
         return "take a number without a point"
@@ -123,31 +170,50 @@ def field_advice(kind: str, text: str) -> str:
 
 
 def setup_range(place: int, name: str, text: str) -> BadCase:
-    rules = {"step_ms": f"a step is 1 to {MOST_STEP_MS} milliseconds", "slots": f"there are 1 to {MOST_SLOTS} slots",
-             "origin_capacity": f"an origin capacity is 0.001 to {SLOT_VEHICLES} vehicles in a slot",
-             "signals": "it is 1 where there is a signals.csv, and else 0",
-             "limits": "it is 1 where there is a limits.csv, and else 0",
-             "cells": f"it is 1 to {count_text(MOST_CELLS_ASKED)}", "rows": f"it is 1 to {count_text(MOST_ROWS_ASKED)}",
-             "links": f"it is 1 to {count_text(MOST_LINKS_ASKED)}",
-             "destinations": f"it is 1 to {count_text(MOST_DESTINATIONS_ASKED)}",
-             "moves": "it is 1 where what moves is floored for each turn, and 0 where it is for each destination"}
-    advice = {"slots": "take a longer step, and so fewer slots", "step_ms": "a second is 1000",
-              "cells": f"without this column it is {count_text(MOST_CELLS)}",
-              "links": f"without this column it is {count_text(MOST_LINKS)}",
-              "rows": f"without this column it is {count_text(MOST_DEMAND_ROWS)} for demand and"
-              f" {count_text(MOST_SPLIT_ROWS)} for splits",
-              "destinations": f"without this column it is {MOST_DESTINATIONS}"}.get(name, "") if text.strip("0") else ""
+    rules = {
+        "step_ms": f"a step is 1 to {MOST_STEP_MS} milliseconds",
+        "slots": f"there are 1 to {MOST_SLOTS} slots",
+        "origin_capacity": f"an origin capacity is 0.001 to {SLOT_VEHICLES} vehicles in a slot",
+        "signals": "it is 1 where there is a signals.csv, and else 0",
+        "limits": "it is 1 where there is a limits.csv, and else 0",
+        "cells": f"it is 1 to {count_text(MOST_CELLS_ASKED)}",
+        "rows": f"it is 1 to {count_text(MOST_ROWS_ASKED)}",
+        "links": f"it is 1 to {count_text(MOST_LINKS_ASKED)}",
+        "destinations": f"it is 1 to {count_text(MOST_DESTINATIONS_ASKED)}",
+        "moves": "it is 1 where what moves is floored for each turn, and 0 where it is for each destination",
+        "carry": "it is 1 where what is left over of a capacity is carried to the next slot, and else 0",
+    }
+    advice = (
+        {
+            "slots": "take a longer step, and so fewer slots",
+            "step_ms": "a second is 1000",
+            "cells": f"without this column it is {count_text(MOST_CELLS)}",
+            "links": f"without this column it is {count_text(MOST_LINKS)}",
+            "rows": f"without this column it is {count_text(MOST_DEMAND_ROWS)} for demand and"
+            f" {count_text(MOST_SPLIT_ROWS)} for splits",
+            "destinations": f"without this column it is {MOST_DESTINATIONS}",
+        }.get(name, "")
+        if text.strip("0")
+        else ""
+    )
     return BadCase("setup", 2, f"Range {place}", rules[name], advice, place)
 
 
 def twice_named(row: int, name: str, first: int) -> BadCase:
-    return BadCase("links", row, "TwiceNamed", f"the link {name} stands already, in row {first}",
-                   "give one of them another name", 1)
+    return BadCase(
+        "links",
+        row,
+        "TwiceNamed",
+        f"the link {name} stands already, in row {first}",
+        "give one of them another name",
+        1,
+    )
 
 
 def self_loop(row: int, node: str) -> BadCase:
-    return BadCase("links", row, "SelfLoop", f"the link begins and ends at the node {node}", "a link joins two nodes",
-                   3)
+    return BadCase(
+        "links", row, "SelfLoop", f"the link begins and ends at the node {node}", "a link joins two nodes", 3
+    )
 
 
 def asking(column: str, most: int, most_asked: int) -> str:
@@ -156,19 +222,36 @@ def asking(column: str, most: int, most_asked: int) -> str:
 
 
 def too_many_links(row: int, most: int) -> BadCase:
-    return BadCase("links", row, "TooManyLinks", f"there are {count_text(most)} links already, which is the most",
-                   f"{asking('links', most, MOST_LINKS_ASKED)}take a part of the network, or merge links that follow"
-                   f" one another")
+    return BadCase(
+        "links",
+        row,
+        "TooManyLinks",
+        f"there are {count_text(most)} links already, which is the most",
+        f"{asking('links', most, MOST_LINKS_ASKED)}take a part of the network, or merge links that follow"
+        f" one another",
+    )
 
 
 def too_many_out(row: int, node: str, links: Iterable[str]) -> BadCase:
-    return BadCase("links", row, "TooManyOut", f"{MOST_OUT} links leave the node {node} already: {', '.join(links)}",
-                   "make two nodes of it, with a short link between them", 2)
+    return BadCase(
+        "links",
+        row,
+        "TooManyOut",
+        f"{MOST_OUT} links leave the node {node} already: {', '.join(links)}",
+        "make two nodes of it, with a short link between them",
+        2,
+    )
 
 
 def too_many_in(row: int, node: str, links: Iterable[str]) -> BadCase:
-    return BadCase("links", row, "TooManyIn", f"{MOST_IN} links enter the node {node} already: {', '.join(links)}",
-                   "make two nodes of it, with a short link between them", 3)
+    return BadCase(
+        "links",
+        row,
+        "TooManyIn",
+        f"{MOST_IN} links enter the node {node} already: {', '.join(links)}",
+        "make two nodes of it, with a short link between them",
+        3,
+    )
 
 
 def zero(row: int, place: int, name: str) -> BadCase:
@@ -179,32 +262,45 @@ def over(row: int, place: int, name: str, most: int) -> BadCase:
     return BadCase("links", row, f"Over {name}", f"it is at most {count_text(most)}", "", place)
 
 
-def step_too_long(row: int, times: tuple[int, int], step_ms: int, least_length_m: int,
-                  speeds: tuple[int, int]) -> BadCase:
+def step_too_long(
+    row: int, times: tuple[int, int], step_ms: int, least_length_m: int, speeds: tuple[int, int]
+) -> BadCase:
     free_ms, wave_ms = times
     named = ((free_ms, "free-flow"), (wave_ms, "wave"))
     short = [f"the {name} time of {ms} ms" for ms, name in named if ms < step_ms]
     verb = "is" if len(short) == 1 else "are"
-    return BadCase("links", row, f"StepTooLong {free_ms} {wave_ms}",
-                   f"{' and '.join(short)} {verb} below the step of {step_ms} ms",
-                   f"take a step of at most {min(free_ms, wave_ms)} ms, or a length of at least"
-                   f" {count_text(least_length_m)} m "
-                   f"at {speeds[0]} and {speeds[1]} km/h", 4)
+    return BadCase(
+        "links",
+        row,
+        f"StepTooLong {free_ms} {wave_ms}",
+        f"{' and '.join(short)} {verb} below the step of {step_ms} ms",
+        f"take a step of at most {min(free_ms, wave_ms)} ms, or a length of at least"
+        f" {count_text(least_length_m)} m "
+        f"at {speeds[0]} and {speeds[1]} km/h",
+        4,
+    )
 
 
 def no_capacity(row: int, step_ms: int, least_step_ms: int) -> BadCase:
     least = f"a step of at least {least_step_ms} ms, or " if least_step_ms <= MOST_STEP_MS else ""
-    return BadCase("links", row, "NoCapacity",
-                   f"less than a thousandth of a vehicle passes the link in a step of {step_ms} ms",
-                   f"take {least}a greater speed or jam density")
+    return BadCase(
+        "links",
+        row,
+        "NoCapacity",
+        f"less than a thousandth of a vehicle passes the link in a step of {step_ms} ms",
+        f"take {least}a greater speed or jam density",
+    )
 
 
 def capacity_over(row: int, units: int, step_ms: int, most_step_ms: int) -> BadCase:
     most = f"a step of at most {most_step_ms} ms, or " if most_step_ms >= 1 else ""
-    return BadCase("links", row, "CapacityOver",
-                   f"{vehicles_text(units)} vehicles pass the link in a step of {step_ms} ms, and at most"
-                   f" {SLOT_VEHICLES} may",
-                   f"take {most}a lower jam density or speed")
+    return BadCase(
+        "links",
+        row,
+        "CapacityOver",
+        f"{vehicles_text(units)} vehicles pass the link in a step of {step_ms} ms, and at most {SLOT_VEHICLES} may",
+        f"take {most}a lower jam density or speed",
+    )
 
 
 def unknown(file: str, row: int, place: int, what: str, name: str, near: str = "") -> BadCase:
@@ -218,8 +314,14 @@ def no_out_link(row: int, node: str, links: list[str], wrong: str, elsewhere: st
 
 
 def no_origin(row: int, node: str) -> BadCase:
-    return BadCase("demand", row, "NoOrigin", f"no link leaves the origin {node}",
-                   "add a link out of it, or take another origin", 1)
+    return BadCase(
+        "demand",
+        row,
+        "NoOrigin",
+        f"no link leaves the origin {node}",
+        "add a link out of it, or take another origin",
+        1,
+    )
 
 
 def same_ends(file: str, row: int, node: str) -> BadCase:
@@ -232,13 +334,31 @@ def bad_slots(file: str, row: int, first: int, end: int | None, slots: int) -> B
     place = 2 if file in ("signals", "limits") else 3
     last = f"the horizon has {slots} slot{'s' * (slots != 1)}, numbered 0 to {slots - 1}"
     if end is None:
-        return BadCase(file, row, "BadSlots", f"slot {first} is not below the horizon: {last}",
-                       "take an earlier slot, or raise slots in setup.csv", place)
+        return BadCase(
+            file,
+            row,
+            "BadSlots",
+            f"slot {first} is not below the horizon: {last}",
+            "take an earlier slot, or raise slots in setup.csv",
+            place,
+        )
     if first >= end:
-        return BadCase(file, row, "BadSlots", f"from slot {first} up to, and without, slot {end} there is none",
-                       "to_slot is above from_slot", place)
-    return BadCase(file, row, "BadSlots", f"slots up to, and without, {end} go past the horizon: {last}",
-                   f"take a to_slot of at most {slots}, or raise slots in setup.csv", place + 1)
+        return BadCase(
+            file,
+            row,
+            "BadSlots",
+            f"from slot {first} up to, and without, slot {end} there is none",
+            "to_slot is above from_slot",
+            place,
+        )
+    return BadCase(
+        file,
+        row,
+        "BadSlots",
+        f"slots up to, and without, {end} go past the horizon: {last}",
+        f"take a to_slot of at most {slots}, or raise slots in setup.csv",
+        place + 1,
+    )
 
 
 def zero_weight(row: int) -> BadCase:
@@ -246,21 +366,35 @@ def zero_weight(row: int) -> BadCase:
 
 
 def too_many_destinations(file: str, row: int, node: str, most: int) -> BadCase:
-    return BadCase(file, row, "TooManyDestinations",
-                   f"{node} would be destination {most + 1}, and at most {most} may be",
-                   f"{asking('destinations', most, MOST_DESTINATIONS_ASKED)}gather nearby destinations in one node", 2)
+    return BadCase(
+        file,
+        row,
+        "TooManyDestinations",
+        f"{node} would be destination {most + 1}, and at most {most} may be",
+        f"{asking('destinations', most, MOST_DESTINATIONS_ASKED)}gather nearby destinations in one node",
+        2,
+    )
 
 
 def too_many_rows(file: str, row: int, most: int) -> BadCase:
-    return BadCase(file, row, "TooManyRows", f"there are {count_text(most)} rows already, which is the most",
-                   f"{asking('rows', most, MOST_ROWS_ASKED)}gather rows: longer spans, or fewer pairs")
+    return BadCase(
+        file,
+        row,
+        "TooManyRows",
+        f"there are {count_text(most)} rows already, which is the most",
+        f"{asking('rows', most, MOST_ROWS_ASKED)}gather rows: longer spans, or fewer pairs",
+    )
 
 
 def too_many_routes(rows: int, most: int) -> BadCase:
     asked = f"write {rows} in the column rows of setup.csv; or " if rows <= MOST_ROWS_ASKED else ""
-    return BadCase("whole", 0, "TooManyRows",
-                   f"the routes make {count_text(rows)} rows, and at most {count_text(most)} may be",
-                   f"{asked}take fewer destinations, or a smaller network")
+    return BadCase(
+        "whole",
+        0,
+        "TooManyRows",
+        f"the routes make {count_text(rows)} rows, and at most {count_text(most)} may be",
+        f"{asked}take fewer destinations, or a smaller network",
+    )
 
 
 def no_split(node: str, destination: str, reason: str, advice: str) -> BadCase:
@@ -269,8 +403,15 @@ def no_split(node: str, destination: str, reason: str, advice: str) -> BadCase:
 
 def cells_over(cells: int, most: int, fits: int, slots: int, produced: int) -> BadCase:
     rule = f"the case has {count_text(cells)} cells, and at most {count_text(most)} may be"
-    asked = (f"write {asked_for(cells)} in the column cells of setup.csv, which takes {memory_text(cells, produced)};"
-             f" or " if cells <= MOST_CELLS_ASKED else "")
-    fitting = ("not one slot fits: take " if fits < 1 else f"{count_text(fits)} of its {count_text(slots)} slots would"
-               f" fit: take fewer slots or a longer step, ")
+    asked = (
+        f"write {asked_for(cells)} in the column cells of setup.csv, which takes {memory_text(cells, produced)};"
+        f" or "
+        if cells <= MOST_CELLS_ASKED
+        else ""
+    )
+    fitting = (
+        "not one slot fits: take "
+        if fits < 1
+        else f"{count_text(fits)} of its {count_text(slots)} slots would fit: take fewer slots or a longer step, "
+    )
     return BadCase("whole", 0, f"CellsOver {cells}", rule, f"{asked}{fitting}a smaller network, or fewer destinations")

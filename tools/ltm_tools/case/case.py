@@ -1,6 +1,6 @@
 """A case: its rows, read from the files of a folder and written into one."""
 import os
-from collections.abc import Mapping
+from collections.abc import Mapping, Sequence
 from copy import copy
 from dataclasses import fields, replace
 from typing import Protocol
@@ -10,6 +10,7 @@ from .geojson import geojson
 from .places import FILE, Places, read_places
 from .reading import read_case, read_network
 from .rows import Rows
+from .streets import read_streets
 from .writing import write_rows
 
 
@@ -46,8 +47,14 @@ class Case(Rows):
     def copied(self) -> "Case":
         """The same case in rows of its own."""
         splits = None if self.splits is None else [replace(row, weights=dict(row.weights)) for row in self.splits]
-        return Case(copy(self.setup), [copy(row) for row in self.links], [copy(row) for row in self.demand], splits,
-                    [copy(row) for row in self.signals], [copy(row) for row in self.limits])
+        return Case(
+            copy(self.setup),
+            [copy(row) for row in self.links],
+            [copy(row) for row in self.demand],
+            splits,
+            [copy(row) for row in self.signals],
+            [copy(row) for row in self.limits],
+        )
 
     def write(self, folder: str | os.PathLike[str]) -> None:
         """Writes the files of the case into a folder, which is made where it is not there. Without splits no
@@ -59,12 +66,23 @@ class Case(Rows):
         there is no `nodes.csv`."""
         return read_places(folder, self)
 
-    def to_geojson(self, folder: str | os.PathLike[str], curves: TellsLinks | None = None,
-                   boundary: int | None = None) -> str:
+    def streets(self, folder: str | os.PathLike[str]) -> dict[str, str]:
+        """The names of streets by link, as the `street_names.csv` of a folder has them, of links that have one."""
+        streets = read_streets(folder)
+        return {link.name: streets[link.name] for link in self.links if streets.get(link.name)}
+
+    def to_geojson(
+        self,
+        folder: str | os.PathLike[str],
+        curves: TellsLinks | None = None,
+        boundary: int | None = None,
+        rows: Mapping[str, Sequence[Mapping[str, object]]] | None = None,
+    ) -> str:
         """The links as GeoJSON, with the places that the `nodes.csv` of a folder has, along the shapes of its
-        `shapes.csv`; with the curves of the case's loading also what these tell of each link, and what stands on it at
-        a boundary."""
+        `shapes.csv` and with the names of its streets; with the curves of the case's loading also what these tell of
+        each link, and what stands on it at a boundary; with rows by link a feature for each."""
         places = self.places(folder)
         if places is None:
             raise Fault(f"{os.fspath(folder)} has no {FILE}, which says where its nodes lie")
-        return geojson(self, places, {} if curves is None else curves.told_of_links(self, boundary))
+        told = {} if curves is None else curves.told_of_links(self, boundary)
+        return geojson(self, places, told, rows, self.streets(folder))

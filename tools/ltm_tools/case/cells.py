@@ -54,14 +54,17 @@ def ask_for_cells(case: Rows) -> str:
     what would fit where they are more than may be asked for."""
     cells = case.cells()
     if cells > MOST_CELLS_ASKED:
-        raise Fault(f"{count_text(cells)} cells, and at most {count_text(MOST_CELLS_ASKED)} may be:"
-                    f" {cells_advice(case)}")
+        raise Fault(
+            f"{count_text(cells)} cells, and at most {count_text(MOST_CELLS_ASKED)} may be: {cells_advice(case)}"
+        )
     if cells <= MOST_CELLS:
         return f"{count_text(cells)} cells of at most {count_text(MOST_CELLS)}"
     case.setup.cells = asked_for(cells)
-    return (f"{count_text(cells)} cells, so the column cells of setup.csv asks for {count_text(case.setup.cells)}, as"
-            f" without it {count_text(MOST_CELLS)} may be:"
-            f" {memory_text(cells, produced_bytes(case))}")
+    return (
+        f"{count_text(cells)} cells, so the column cells of setup.csv asks for {count_text(case.setup.cells)}, as"
+        f" without it {count_text(MOST_CELLS)} may be:"
+        f" {memory_text(cells, produced_bytes(case))}"
+    )
 
 
 def cells_advice(case: Rows) -> str:
@@ -71,8 +74,14 @@ def cells_advice(case: Rows) -> str:
     told = []
     if fitting * step >= MINUTE_MS:
         told.append(f"--horizon {fitting * step // MINUTE_MS} at this step")
-    longer = next((number for number in range(step + 1, MOST_STEP_MS + 1) if MINUTE_MS % number == 0
-                   and -(-slots * step // number) <= fitting), None)
+    longer = next(
+        (
+            number
+            for number in range(step + 1, MOST_STEP_MS + 1)
+            if MINUTE_MS % number == 0 and -(-slots * step // number) <= fitting
+        ),
+        None,
+    )
     if longer:
         told.append(f"--fit {longer} at this horizon")
     ends = len(case.destinations) * fitting // slots

@@ -73,9 +73,11 @@ def wrong_counts(text: str, boundaries: int) -> str:
     counts = text.split(" ")
     for place, count in enumerate(counts):
         if COUNT.fullmatch(count) is None or int(count) > MOST_COUNT:
-            return (f"the count at boundary {place} is {shown(count)}, and 1 to 15 digits of at most {MOST_COUNT} are"
-                    f" wanted, with one "
-                    "space between two counts")
+            return (
+                f"the count at boundary {place} is {shown(count)}, and 1 to 15 digits of at most {MOST_COUNT} are"
+                f" wanted, with one "
+                "space between two counts"
+            )
     if len(counts) != boundaries:
         return f"there are {len(counts)} counts, and the case has {boundaries} boundaries, one more than slots"
     return ""

@@ -10,9 +10,18 @@ from pathlib import Path
 
 from ..errors import Fault
 from ..files import is_utf16, read_bytes, records, shown
-from ..formats import (HEADERS, MOST_CURVES_BYTES, MOST_EDITOR_LINES, MOST_FILE_BYTES, MOST_LINES, MOST_LINE_BYTES,
-                       clock_text, count_text)
+from ..formats import (
+    HEADERS,
+    MOST_CURVES_BYTES,
+    MOST_EDITOR_LINES,
+    MOST_FILE_BYTES,
+    MOST_LINES,
+    MOST_LINE_BYTES,
+    clock_text,
+    count_text,
+)
 from ..program import routes_write
+from ..replacing import after_a_cut
 from .bad_case import BadCase, NoFile
 from .case import Case
 from .cells import memory_text, produced_bytes
@@ -25,8 +34,14 @@ MOST_TOLD = 5  # lines of a script
 Told = list[str]
 
 
-def explain(folder: str, status: int, line: str, words: Sequence[str] = (), script: str | None = None,
-            command: str | None = None) -> Told:
+def explain(
+    folder: str,
+    status: int,
+    line: str,
+    words: Sequence[str] = (),
+    script: str | None = None,
+    command: str | None = None,
+) -> Told:
     """The lines that explain a run in a folder which ended with this status; none where there is nothing to say."""
     words = list(words) or ["load"]
     told = by_status(folder, status, line, words) if command is None else refused(folder, line, command)
@@ -63,13 +78,13 @@ def refused(folder: str, line: str, command: str) -> Told:
         return [f"{said.reason}{edit_place(said)}"] if line.strip() == f"refused command {said.cause}" else []
     try:
         asked = parsed(command.encode())
-        why = why_refused(read(folder, ["session"]), asked, line) if isinstance(asked, dict) else ""
+        why = why_refused(read_as_program(folder, ["session"]), asked, line) if isinstance(asked, dict) else ""
     except Fault:
         return []
     return [why] if why else []
 
 
-def read(folder: str, words: list[str]) -> Case:
+def read_as_program(folder: str, words: list[str]) -> Case:
     """The case as the program reads it with these words: its first fault is raised."""
     return Case.read(folder, splits=words[0] != "routes")
 
@@ -77,7 +92,7 @@ def read(folder: str, words: list[str]) -> Case:
 def first_fault(folder: str, words: list[str]) -> Fault | None:
     """The first fault of the case, if it has one."""
     try:
-        read(folder, words)
+        read_as_program(folder, words)
     except Fault as fault:
         return fault
     return None
@@ -115,6 +130,9 @@ def file_advice(folder: str, fault: NoFile) -> Told:
     if not fault.missing:
         return [f"{name} cannot be read: {fault}"]
     told = [f"{name} is not there"]
+    cut = after_a_cut(folder)
+    if cut:
+        return [*told, f"    {cut}"]
     near = [found for found in _names_in(folder) if found.lower() == name and found != name]
     if near:
         return [*told, f"    there is {near[0]}: file names are in small letters"]
@@ -122,9 +140,11 @@ def file_advice(folder: str, fault: NoFile) -> Told:
         return [*told, f"    {routes_write(folder)}"]
     if fault.file in ("signals", "limits"):
         return [*told, f"    setup.csv asks for it: write it, or put 0 in the field {fault.file}"]
-    return [*told,
-            f"    a case has setup.csv, links.csv, demand.csv and splits.csv; its first line is"
-            f" {','.join(HEADERS[fault.file])}"]
+    return [
+        *told,
+        f"    a case has setup.csv, links.csv, demand.csv and splits.csv; its first line is"
+        f" {','.join(HEADERS[fault.file])}",
+    ]
 
 
 def _names_in(folder: str) -> list[str]:
@@ -170,9 +190,11 @@ def too_much(folder: str, status: int, line: str, words: list[str]) -> Told:
         return [f"the script has more than {lines} lines, and that is the most: the first {lines} are answered"]
     number = re.fullmatch(r"too long line ([0-9]+)", line.strip())
     if number:
-        return [f"line {number[1]} of the script has more than {count_text(MOST_LINE_BYTES)} bytes, and that is the"
-                f" most",
-                "    cut the batch into several: a batch has at most 32 edits"]
+        return [
+            f"line {number[1]} of the script has more than {count_text(MOST_LINE_BYTES)} bytes, and that is the"
+            f" most",
+            "    cut the batch into several: a batch has at most 32 edits",
+        ]
     if not line.strip() and words[0] in ("session", "view"):
         return [f"a line of the script has more than {count_text(MOST_LINE_BYTES)} bytes, and that is the most"]
     name = line.strip().removeprefix("too long ")
@@ -182,25 +204,29 @@ def too_much(folder: str, status: int, line: str, words: list[str]) -> Told:
     path = os.path.join(folder, name + (".jsonl" if name.startswith("edits") else ".csv"))
     if not os.path.isfile(path) or os.path.getsize(path) <= most:
         return []
-    return [f"{os.path.basename(path)} has {count_text(os.path.getsize(path))} bytes, and at most {count_text(most)}"
-            f" are read"]
+    return [
+        f"{os.path.basename(path)} has {count_text(os.path.getsize(path))} bytes, and at most {count_text(most)}"
+        f" are read"
+    ]
 
 
 def no_memory(folder: str, words: list[str]) -> Told:
     """How large the case is, where memory was not found."""
     try:
-        case = read(folder, words)
+        case = read_as_program(folder, words)
     except Fault:
         return ["memory was not found"]
     cells = case.cells()
-    return [f"memory was not found; the case has {count_text(cells)} cells, {memory_text(cells, produced_bytes(case))}",
-            "    take fewer slots, or end other programs"]
+    return [
+        f"memory was not found; the case has {count_text(cells)} cells, {memory_text(cells, produced_bytes(case))}",
+        "    take fewer slots, or end other programs",
+    ]
 
 
 def bad_curves(folder: str, line: str) -> Told:
     """What is wrong with the first record of the curve file that is."""
     try:
-        fault = find_fault(read(folder, ["check"]), read_bytes(os.path.join(folder, "curves.csv")))
+        fault = find_fault(read_as_program(folder, ["check"]), read_bytes(os.path.join(folder, "curves.csv")))
     except Fault:
         return []
     if fault is None or fault.line() != line.strip():
@@ -212,7 +238,7 @@ def bad_curves(folder: str, line: str) -> Told:
 def not_loading(folder: str, line: str) -> Told:
     """At which node and moment the counts of the curve file are no loading."""
     try:
-        case = read(folder, ["check"])
+        case = read_as_program(folder, ["check"])
     except Fault:
         return []
     if line.strip() == "loading no start":
@@ -224,15 +250,18 @@ def not_loading(folder: str, line: str) -> Told:
     begin, end = slot * case.setup.step_ms, (slot + 1) * case.setup.step_ms
     into, out = ([link.name for link in links] for links in (case.in_links(node), case.out_links(node)))
     when = f"slot {slot}, which is {clock_text(begin)} to {clock_text(end)} of the horizon"
-    return [f"the counts at the end of {when}, are not what the node {node} makes of those before",
-            f"    links into it: {', '.join(into) or 'none'}; out of it: {', '.join(out) or 'none'}; docs/MODEL.md has"
-            f" the rules of a node step"]
+    return [
+        f"the counts at the end of {when}, are not what the node {node} makes of those before",
+        f"    links into it: {', '.join(into) or 'none'}; out of it: {', '.join(out) or 'none'}; docs/MODEL.md has"
+        f" the rules of a node step",
+    ]
 
 
 def bad_script(folder: str, line: str) -> Told:
     """Why a line of a file of edits is no edit."""
-    found = re.fullmatch(r"bad script edits([1-8]) line ([0-9]{1,10}) (NotEdit|NotJson|NotCommand [0-9]+)",
-                         line.strip())
+    found = re.fullmatch(
+        r"bad script edits([1-8]) line ([0-9]{1,10}) (NotEdit|NotJson|NotCommand [0-9]+)", line.strip()
+    )
     if found is None:
         return []
     name, number = f"edits{found[1]}.jsonl", int(found[2])

@@ -3,6 +3,7 @@ import os
 
 from ..files import Record
 from ..formats import MOST_FILE_BYTES, headers_of, is_name, units_or_none, whole_of
+from ..replacing import after_a_cut
 from . import bad_case
 from .bad_case import NoFile, TooLong
 
@@ -16,7 +17,8 @@ def fetch(folder: str | os.PathLike[str], file: str) -> bytes:
         with open(path, "rb") as opened:
             return opened.read()
     except FileNotFoundError:
-        raise NoFile(file, True, f"{path} is not there") from None
+        cut = after_a_cut(folder)
+        raise NoFile(file, True, f"{path} is not there{cut and '; '}{cut}") from None
     except OSError as error:
         raise NoFile(file, False, f"{path}: {error.strerror or error}") from None
 

@@ -1,21 +1,30 @@
 """What a case has, and what is to be known before it is run."""
-from dataclasses import dataclass
-from fractions import Fraction
+from collections.abc import Mapping
 
 from ..errors import Fault
 from ..files import records
-from ..formats import (HOUR_MS, MOST_CELLS_ASKED, MOST_SLOTS, clock_text, count_text, counted, short_vehicles,
-                       vehicles_text)
+from ..formats import (
+    MOST_CELLS_ASKED,
+    MOST_SLOTS,
+    clock_text,
+    count_text,
+    counted,
+    short_vehicles,
+    vehicles_text,
+)
 from .bad_case import BadCase
 from .case import Case
 from .cells import asked_for, cells_in, memory_text, produced_bytes
 from .circles import find_circles
+from .closed import closed_lines
 from .fields import fetch, read_header
-from .flooring import flooring_lines
+from .flooring import flooring_lines, pulse_lines
+from .inspect_origins import MOST_TOLD, more_line, origin_lines, pushing_lines
 from .reading import Reader, read_setup
+from .rounding import red_lines, rounding_lines
 from .rows import Link
+from .streets import read_streets, street_and_id
 
-MOST_TOLD = 8  # of a list
 MOST_LINKS = 12  # of a circle
 TABLE = "{:32} {:>9} {:>9} {:>9} {:>9} {:>10}"
 
@@ -67,11 +76,14 @@ def inspect(folder: str) -> list[str]:
     refusal = first_refusal(folder)
     told: list[str] = []
     try:
-        case = read_loosely(folder)
+        case, streets = read_loosely(folder), read_streets(folder)
     except Fault:
         pass
     else:
-        told = [*size_lines(case), *step_lines(case), *circle_lines(case), *origin_lines(case), *flooring_lines(case)]
+        told = [*size_lines(case), *step_lines(case, streets), *circle_lines(case, streets), *origin_lines(case)]
+        told += [*pushing_lines(case), *closed_lines(case, streets)]
+        told += [*(flooring_lines(case, streets) or pulse_lines(case))]
+        told += [*rounding_lines(case, streets), *red_lines(case, streets)]
     return told + refusal_lines(folder, refusal)
 
 
@@ -93,8 +105,11 @@ def size_lines(case: Case) -> list[str]:
     cells, fits = case.cells(), case.slots_that_fit()
     produced = produced_bytes(case)
     in_memory = min(fits, case.slots_that_fit(cells_in(free_memory(), produced)))
-    asking = (f"; the column cells of setup.csv may ask for {asked_for(cells)}"
-              if setup.most_cells < cells <= MOST_CELLS_ASKED else "")
+    asking = (
+        f"; the column cells of setup.csv may ask for {asked_for(cells)}"
+        if setup.most_cells < cells <= MOST_CELLS_ASKED
+        else ""
+    )
     return [
         f"network     {counted(len(case.links), 'link')}, {counted(len(case.nodes), 'node')},"
         f" {counted(len(case.destinations), 'destination')}",
@@ -104,7 +119,8 @@ def size_lines(case: Case) -> list[str]:
         + ("none: ltm routes writes them" if case.splits is None else counted(len(case.standing_splits()), "row")),
         f"horizon     {clock_text(setup.horizon_ms)}, {counted(setup.slots, 'slot')} of {setup.step_ms} ms",
         f"cells       {count_text(cells)} of at most {count_text(setup.most_cells)}; up to {count_text(fits)} slots fit"
-        + (", the most there may be" if fits == MOST_SLOTS else "") + asking,
+        + (", the most there may be" if fits == MOST_SLOTS else "")
+        + asking,
         f"memory      {memory_text(cells, produced)}; up to {count_text(in_memory)} slots fit in what is free",
     ]
 
@@ -121,17 +137,21 @@ def free_memory() -> int:
     return 1 << 62
 
 
-def step_lines(case: Case) -> list[str]:
+def step_lines(case: Case, streets: Mapping[str, str]) -> list[str]:
     """The longest step that all links allow, and the links that allow no longer one."""
     if not case.links:
         return ["step        there is no link"]
     links = sorted(case.links, key=lambda link: link.longest_step_ms)
     least = links[0].longest_step_ms
     told = [f"step        {case.setup.step_ms} ms; the links allow {least} ms at most"]
-    told += [f"            {link.name} allows {link.longest_step_ms} ms: {why(link)}" for link in links[:3]]
+    told += [
+        f"            {street_and_id(link.name, streets)} allows {link.longest_step_ms} ms: {why(link)}"
+        for link in links[:3]
+    ]
     over = sum(link.longest_step_ms < case.setup.step_ms for link in links)
-    return told + ([f"            {counted(over, 'link')} may not have the step of {case.setup.step_ms} ms"] if over
-                   else [])
+    return told + (
+        [f"            {counted(over, 'link')} may not have the step of {case.setup.step_ms} ms"] if over else []
+    )
 
 
 def why(link: Link) -> str:
@@ -144,95 +164,23 @@ def why(link: Link) -> str:
     return bounds.get(link.longest_step_ms, "a step is at most a minute")
 
 
-def circle_lines(case: Case) -> list[str]:
+def circle_lines(case: Case, streets: Mapping[str, str]) -> list[str]:
     """Which destinations have circles in their splits."""
     if case.splits is None:
         return []
     circles = find_circles(case)
     if not circles:
-        return ["circles     none in the splits"]
-    told = [f"circles     in the splits of {len(circles)} of {counted(len(case.destinations), 'destination')}: traffic"
-            f" that is sent round"]
+        return ["loops       none in the splits"]
+    told = [
+        f"loops       in the splits of {len(circles)} of {counted(len(case.destinations), 'destination')}: traffic"
+        f" that drives round"
+    ]
     for circle in circles[:MOST_TOLD]:
         since = f" from {clock_text(circle.from_slot * case.setup.step_ms)} on" if circle.from_slot else ""
         more = f" and {counted(len(circle.links) - MOST_LINKS, 'more link')}" if len(circle.links) > MOST_LINKS else ""
-        told.append(f"            for {circle.destination}{since}: {' '.join(circle.links[:MOST_LINKS])}{more}")
+        names = " ".join(street_and_id(name, streets) for name in circle.links[:MOST_LINKS])
+        told.append(f"            for {circle.destination}{since}: {names}{more}")
     return told + more_line(len(circles))
-
-
-def more_line(count: int) -> list[str]:
-    """How many are not told, where there are some."""
-    return [f"            and {count_text(count - MOST_TOLD)} more"] if count > MOST_TOLD else []
-
-
-@dataclass(slots=True)
-class Origin:
-    """The most that the demand of an origin asks for in a slot, the slot where that begins, and what the origin can
-    send in one."""
-
-    name: str
-    asked: Fraction
-    slot: int
-    sends: int
-    by: str
-
-
-def origin_lines(case: Case) -> list[str]:
-    """The origins whose demand is above what they can send."""
-    over = sorted(overloaded(case), key=lambda origin: origin.sends / origin.asked)
-    if not over:
-        return ["origins     none with more demand in a slot than can be sent"]
-    told = [f"origins     {counted(len(over), 'origin')} with more demand in a slot than can be sent, so that vehicles"
-            f" wait there"]
-    for origin in over[:MOST_TOLD]:
-        step_ms = case.setup.step_ms
-        asked, sends = hourly(origin.asked, step_ms), hourly(Fraction(origin.sends), step_ms)
-        told.append(f"            {origin.name}: {asked} vehicles an hour from {clock_text(origin.slot * step_ms)} on,"
-                    f" and {origin.by} {sends} at most")
-    return told + more_line(len(over))
-
-
-def hourly(units: Fraction, step_ms: int) -> str:
-    """Thousandths in a slot as vehicles an hour, rounded to a whole number."""
-    return count_text(round(units * HOUR_MS / step_ms / 1000))
-
-
-def links_used(case: Case) -> set[str] | None:
-    """The links over which splits send what sets out at their tails, whenever that is; None where there are no
-    splits."""
-    if case.splits is None:
-        return None
-    pairs = {(row.origin, row.destination) for row in case.standing_demand()}
-    rows = (row for row in case.standing_splits() if (row.node, row.destination) in pairs)
-    return {name for row in rows for name, weight in row.weights.items() if weight}
-
-
-def overloaded(case: Case) -> list[Origin]:
-    """The origins whose demand asks, in some slot, for more than the origin capacity, or than the links over which it
-    is sent take."""
-    changes: dict[str, dict[int, Fraction]] = {}
-    for row in case.standing_demand():
-        pace = Fraction(row.units, row.to_slot - row.from_slot)
-        of_origin = changes.setdefault(row.origin, {})
-        of_origin[row.from_slot] = of_origin.get(row.from_slot, Fraction(0)) + pace
-        of_origin[row.to_slot] = of_origin.get(row.to_slot, Fraction(0)) - pace
-    taken: dict[str, int] = {}
-    used = links_used(case)
-    for link in case.links:
-        if used is None or link.name in used:
-            taken[link.tail] = taken.get(link.tail, 0) + link.capacity(case.setup.step_ms)
-    found = []
-    for name, at in changes.items():
-        pace, most, slot = Fraction(0), Fraction(0), 0
-        for when in sorted(at):
-            pace += at[when]
-            if pace > most:
-                most, slot = pace, when
-        capacity, by_links = case.setup.origin_capacity, taken.get(name, 0)
-        sends, by = (capacity, "an origin sends") if capacity <= by_links else (by_links, "its links take")
-        if most > sends:
-            found.append(Origin(name, most, slot, sends, by))
-    return found
 
 
 def link_lines(folder: str) -> list[str]:
@@ -240,6 +188,14 @@ def link_lines(folder: str) -> list[str]:
     case = read_loosely(folder)
     told = [TABLE.format("link", "length_m", "free_ms", "wave_ms", "most_step", "storage")]
     for link in case.links:
-        told.append(TABLE.format(link.name, link.length_m, link.free_ms, link.wave_ms, link.longest_step_ms,
-                                 short_vehicles(link.storage_units)))
+        told.append(
+            TABLE.format(
+                link.name,
+                link.length_m,
+                link.free_ms,
+                link.wave_ms,
+                link.longest_step_ms,
+                short_vehicles(link.storage_units),
+            )
+        )
     return told

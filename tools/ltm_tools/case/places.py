@@ -13,7 +13,7 @@ import math
 import os
 import re
 from collections.abc import Iterable
-from dataclasses import dataclass, field
+from dataclasses import dataclass, field, replace
 
 from ..errors import Fault
 from ..files import read_table, write_records
@@ -23,6 +23,7 @@ from .rows import Link, Rows
 FILE, SHAPES_FILE = "nodes.csv", "shapes.csv"
 FILES = (FILE, SHAPES_FILE)
 DEGREES = "EPSG:4326"
+METRES_PER_DEGREE = 6_371_008.8 * math.pi / 180  # of latitude, on a sphere of the mean radius of the Earth
 CRS = re.compile(r"EPSG:[0-9]{4,6}", re.ASCII)
 Place = tuple[float, float]
 Line = tuple[Place, ...]
@@ -30,12 +31,14 @@ Line = tuple[Place, ...]
 
 @dataclass(slots=True)
 class Places:
-    """The place of each node, their projection where it is known, and the points of each link that does not run
-    straight."""
+    """The place of each node, their projection where it is known, the points of each link that does not run straight,
+    and, in a plane, the metres of a unit where they are known and by what x was shortened."""
 
     of: dict[str, Place]
     crs: str | None = None
     shapes: dict[str, Line] = field(default_factory=dict)
+    metres: float | None = None
+    shorter: float = 1.0
 
     def line(self, link: Link) -> Line:
         """The points of a link: its shape, or else its two ends."""
@@ -45,17 +48,21 @@ class Places:
         """The places in a plane with one scale in all directions, for a picture: degrees are shortened by the latitude
         of the middle."""
         if self.crs != DEGREES or not self.of:
-            return self
+            return replace(self, metres=None if self.crs is None else 1.0)
         latitudes = [y for _, y in self.of.values()]
         shorter = math.cos(math.radians((min(latitudes) + max(latitudes)) / 2))
         shapes = {name: tuple((x * shorter, y) for x, y in line) for name, line in self.shapes.items()}
-        return Places({name: (x * shorter, y) for name, (x, y) in self.of.items()}, None, shapes)
+        of = {name: (x * shorter, y) for name, (x, y) in self.of.items()}
+        return Places(of, None, shapes, METRES_PER_DEGREE, shorter)
 
     def write(self, folder: str | os.PathLike[str]) -> None:
         """Writes `nodes.csv` into a folder, and `shapes.csv` where some link has a shape, which else is taken away."""
         crs = [self.crs] if self.crs is not None else []
-        write_records(os.path.join(folder, FILE), ["name", "x", "y", *["crs"] * len(crs)],
-                      [[name, number_text(x), number_text(y), *crs] for name, (x, y) in self.of.items()])
+        write_records(
+            os.path.join(folder, FILE),
+            ["name", "x", "y", *["crs"] * len(crs)],
+            [[name, number_text(x), number_text(y), *crs] for name, (x, y) in self.of.items()],
+        )
         path = os.path.join(folder, SHAPES_FILE)
         if self.shapes:
             write_records(path, ("link", "points"), [[name, points_text(line)] for name, line in self.shapes.items()])

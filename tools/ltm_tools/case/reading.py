@@ -7,10 +7,22 @@ import os
 from collections.abc import Callable, Iterable
 
 from ..files import records
-from ..formats import (HEADERS, MOST_CELLS_ASKED, MOST_DESTINATIONS_ASKED, MOST_IN, MOST_JAM_PER_KM, MOST_KMH,
-                       MOST_LENGTH_M,
-                       MOST_LINKS_ASKED, MOST_OUT, MOST_ROWS_ASKED, MOST_SLOTS, MOST_SLOT_UNITS, MOST_STEP_MS,
-                       weights_or_none)
+from ..formats import (
+    HEADERS,
+    MOST_CELLS_ASKED,
+    MOST_DESTINATIONS_ASKED,
+    MOST_IN,
+    MOST_JAM_PER_KM,
+    MOST_KMH,
+    MOST_LENGTH_M,
+    MOST_LINKS_ASKED,
+    MOST_OUT,
+    MOST_ROWS_ASKED,
+    MOST_SLOTS,
+    MOST_SLOT_UNITS,
+    MOST_STEP_MS,
+    weights_or_none,
+)
 from . import bad_case
 from .bad_case import NoFile
 from .fields import check_width, fetch, name_in, read_header, units_in, whole_in
@@ -18,10 +30,19 @@ from .rows import Demand, Limit, Link, Rows, Setup, Split
 from .valid import check_cells, check_routes, check_splits
 
 MOST_DIAGRAM = (MOST_LENGTH_M, MOST_KMH, MOST_KMH, MOST_JAM_PER_KM)
-RANGES = {"step_ms": (1, MOST_STEP_MS), "slots": (1, MOST_SLOTS), "origin_capacity": (1, MOST_SLOT_UNITS),
-          "signals": (0, 1), "limits": (0, 1),
-          "cells": (1, MOST_CELLS_ASKED), "rows": (1, MOST_ROWS_ASKED), "links": (1, MOST_LINKS_ASKED),
-          "destinations": (1, MOST_DESTINATIONS_ASKED), "moves": (0, 1)}
+RANGES = {
+    "step_ms": (1, MOST_STEP_MS),
+    "slots": (1, MOST_SLOTS),
+    "origin_capacity": (1, MOST_SLOT_UNITS),
+    "signals": (0, 1),
+    "limits": (0, 1),
+    "cells": (1, MOST_CELLS_ASKED),
+    "rows": (1, MOST_ROWS_ASKED),
+    "links": (1, MOST_LINKS_ASKED),
+    "destinations": (1, MOST_DESTINATIONS_ASKED),
+    "moves": (0, 1),
+    "carry": (0, 1),
+}
 """Of each field of `setup.csv` the least and the most."""
 
 
@@ -86,9 +107,19 @@ def read_setup(data: bytes) -> Setup:
             raise bad_case.setup_range(place, name, fields[place - 1])
     if len(found) > 2:
         raise bad_case.second_setup_record()
-    return Setup(step_ms, slots, values[2], named.get("signals") == 1, named.get("limits") == 1, named.get("cells"),
-                 named.get("rows"),
-                 named.get("links"), named.get("destinations"), named.get("moves") == 1)
+    return Setup(
+        step_ms,
+        slots,
+        values[2],
+        named.get("signals") == 1,
+        named.get("limits") == 1,
+        named.get("cells"),
+        named.get("rows"),
+        named.get("links"),
+        named.get("destinations"),
+        named.get("moves") == 1,
+        named.get("carry") == 1,
+    )
 
 
 class Reader:
@@ -140,12 +171,12 @@ class Reader:
 
     def check_limits(self, row: int, link: Link) -> None:
         """Whether the link's diagram sets limits at the step of the setup."""
-        check_diagram(row, link, self.case.setup.step_ms)
+        check_diagram(row, link, self.case.setup.step_ms, self.case.setup.carry)
 
     def check_node(self, file: str, row: int, place: int, name: str) -> None:
         """Whether the case has a node that a record names."""
         if name not in self.out:
-            raise bad_case.unknown(file, row, place, "node", name, nearest(name, self.out))
+            raise bad_case.unknown(file, row, place, "node", name, nearest_name(name, self.out))
 
     def add_destination(self, file: str, row: int, node: str) -> None:
         """Adds the destination that a record names, where it is new and there is room."""
@@ -212,19 +243,19 @@ class Reader:
         first, end = whole_in(file, row, fields, 2), whole_in(file, row, fields, 3)
         units = units_in(file, row, fields, 4)
         if name not in self.links:
-            raise bad_case.unknown(file, row, 1, "link", name, nearest(name, self.links))
+            raise bad_case.unknown(file, row, 1, "link", name, nearest_name(name, self.links))
         self.check_slots(file, row, first, end)
         (self.case.signals if file == "signals" else self.case.limits).append(Limit(name, first, end, units))
 
 
-def nearest(name: str, names: Iterable[str]) -> str:
+def nearest_name(name: str, names: Iterable[str]) -> str:
     """Which of the names that there are is spelled nearly so."""
     found = difflib.get_close_matches(name, list(names), 1, 0.7)
     return f"there is {found[0]}" if found else ""
 
 
-def check_diagram(row: int, link: Link, step_ms: int) -> None:
-    """Whether the link's diagram sets limits at this step."""
+def check_diagram(row: int, link: Link, step_ms: int, carry: bool = False) -> None:
+    """Whether the link's diagram sets limits at this step, with what is left over of its capacity carried or not."""
     sizes = (link.length_m, link.free_kmh, link.wave_kmh, link.jam_per_km)
     for place, (name, size, most) in enumerate(zip(HEADERS["links"][3:], sizes, MOST_DIAGRAM), 4):
         if size == 0:
@@ -233,10 +264,11 @@ def check_diagram(row: int, link: Link, step_ms: int) -> None:
             raise bad_case.over(row, place, name, most)
     if step_ms > min(link.free_ms, link.wave_ms):
         speeds = (link.free_kmh, link.wave_kmh)
-        raise bad_case.step_too_long(row, (link.free_ms, link.wave_ms), step_ms,
-                                     (step_ms - 1) * max(speeds) // 3600 + 1, speeds)
-    capacity = link.capacity(step_ms)
-    if capacity == 0:
+        raise bad_case.step_too_long(
+            row, (link.free_ms, link.wave_ms), step_ms, (step_ms - 1) * max(speeds) // 3600 + 1, speeds
+        )
+    if link.capacity(step_ms) == 0:
         raise bad_case.no_capacity(row, step_ms, link.least_step_ms)
-    if capacity > MOST_SLOT_UNITS:
-        raise bad_case.capacity_over(row, capacity, step_ms, link.passing_step_ms)
+    most = link.most_capacity(step_ms, carry)
+    if most > MOST_SLOT_UNITS:
+        raise bad_case.capacity_over(row, most, step_ms, link.passing_step(carry))

@@ -23,10 +23,12 @@ def why_refused(case: Case, command: Members, answer: str) -> str:
         return of_question(case, command, words[2])
     place = whole_of(words[2]) if words[:2] == ["refused", "edit"] and len(words) > 3 else None
     edits = command.get("edits")
-    if place is None or not isinstance(edits,
-                                       (list, tuple)) or not 1 <= place <= len(edits) or not isinstance(edits[place
-                                                                                                              - 1],
-                                                                                                        Mapping):
+    if (
+        place is None
+        or not isinstance(edits, (list, tuple))
+        or not 1 <= place <= len(edits)
+        or not isinstance(edits[place - 1], Mapping)
+    ):
         return ""
     return of_edit(case, edits[place - 1], words[3:])
 
@@ -36,8 +38,9 @@ def of_question(case: Case, command: Members, cause: str) -> str:
     if cause == "UnknownName":
         return unknown(case, command)
     where = "not below" if command.get("do") == "time" else "past"
-    return (f"slot {command.get('slot')} is {where} the horizon of the loading that is shown" if cause == "BadSlots"
-            else "")
+    return (
+        f"slot {command.get('slot')} is {where} the horizon of the loading that is shown" if cause == "BadSlots" else ""
+    )
 
 
 def of_edit(case: Case, edit: Members, cause: list[str]) -> str:
@@ -55,8 +58,14 @@ def of_edit(case: Case, edit: Members, cause: list[str]) -> str:
     if cause[0] == "BadSlots":
         return bad_slots(edit)
     if cause[0] == "ZeroWeight":
-        zero = next((f" of row {number}" for number, (_, weights) in enumerate(rows_of(edit), 1)
-                     if not any(weights.values())), "")
+        zero = next(
+            (
+                f" of row {number}"
+                for number, (_, weights) in enumerate(splits_rows(edit), 1)
+                if not any(weights.values())
+            ),
+            "",
+        )
         return f"all weights{zero} are 0"
     if cause[0] == "OpenSplit":
         return open_split(edit)
@@ -66,7 +75,7 @@ def of_edit(case: Case, edit: Members, cause: list[str]) -> str:
         return f"there {there} rows{'' if kind == 'splits' else ' already'}, which is the most"
     if cause[0] == "CellsOver" and len(cause) == 2 and (cells := told_or_none(cause[1])) is not None:
         return f"the case would have {count_text(cells)} cells, and at most {count_text(case.setup.most_cells)} may be"
-    return diagram(case, edit, " ".join(cause)) if kind == "diagram" else ""
+    return why_no_limits(case, edit, " ".join(cause)) if kind == "diagram" else ""
 
 
 def unknown(case: Case, members: Members) -> str:
@@ -76,25 +85,28 @@ def unknown(case: Case, members: Members) -> str:
         if place in members and members[place] not in (links if place == "link" else nodes):
             return f"links.csv has no {'link' if place == 'link' else 'node'} {members[place]}"
     out = [link.name for link in case.out_links(str(members.get("node")))]
-    for weights in (members.get("weights"), *(row[1] for row in rows_of(members))):
+    for weights in (members.get("weights"), *(row[1] for row in splits_rows(members))):
         wrong = [str(name) for name in weights if name not in out] if isinstance(weights, Mapping) else []
         if wrong:
             return f"{wrong[0]} is no link out of {members.get('node')}: these are {', '.join(out) or 'none'}"
     return ""
 
 
-def rows_of(edit: Members) -> list[tuple[int, Members]]:
+def splits_rows(edit: Members) -> list[tuple[int, Members]]:
     """The rows of an edit `splits`, each a slot and weights; none of another."""
     rows = edit.get("rows")
     pairs = rows if isinstance(rows, (list, tuple)) and edit.get("kind") == "splits" else ()
-    return [(row[0], row[1]) for row in pairs if isinstance(row, (list, tuple)) and len(row) == 2
-            and isinstance(row[0], int)]
+    return [
+        (row[0], row[1])
+        for row in pairs
+        if isinstance(row, (list, tuple)) and len(row) == 2 and isinstance(row[0], int)
+    ]
 
 
 def bad_rows(edit: Members) -> str:
     """Which row of an edit `splits` begins at a slot that it may not."""
     before = -1
-    for number, (slot, _) in enumerate(rows_of(edit), 1):
+    for number, (slot, _) in enumerate(splits_rows(edit), 1):
         if number == 1 and slot:
             return f"the first row begins at slot {slot}, and is to begin at slot 0"
         if slot <= before:
@@ -108,12 +120,17 @@ def bad_slots(edit: Members) -> str:
         return bad_rows(edit)
     first, end = edit.get("from"), edit.get("to")
     if edit.get("kind") == "horizon":
-        return (f"a horizon of {edit.get('slots')} slots is no longer than the one before, or above"
-                f" {count_text(MOST_SLOTS)}")
+        return (
+            f"a horizon of {edit.get('slots')} slots is no longer than the one before, or above"
+            f" {count_text(MOST_SLOTS)}"
+        )
     if isinstance(first, int) and isinstance(end, int) and first >= end:
         return f"from slot {first} up to, and without, slot {end} there is none"
-    return (f"slots from {first} on go past the horizon" if end is None else f"slots up to, and without, {end} go past"
-            f" the horizon")
+    return (
+        f"slots from {first} on go past the horizon"
+        if end is None
+        else f"slots up to, and without, {end} go past the horizon"
+    )
 
 
 def open_split(edit: Members) -> str:
@@ -121,19 +138,21 @@ def open_split(edit: Members) -> str:
         return f"no split row says how traffic for {edit.get('destination')} goes on from {edit.get('origin')}"
     if edit.get("kind") == "splits":
         return "a weight leads to a node where no split row says how it goes on"
-    return (f"the row would be the first of {edit.get('node')} for {edit.get('destination')} and begin after slot 0, or"
-            f" a weight leads to "
-            "a node where no split row says how it goes on")
+    return (
+        f"the row would be the first of {edit.get('node')} for {edit.get('destination')} and begin after slot 0, or"
+        f" a weight leads to "
+        "a node where no split row says how it goes on"
+    )
 
 
-def diagram(case: Case, edit: Members, cause: str) -> str:
+def why_no_limits(case: Case, edit: Members, cause: str) -> str:
     """Why the diagram sets no limits at the step of the case."""
     sizes = [edit.get(name) for name in ("length_m", "free_kmh", "wave_kmh", "jam_per_km")]
     whole = [size for size in sizes if isinstance(size, int)]
     if len(whole) < len(sizes):
         return ""
     try:
-        check_diagram(0, Link(str(edit.get("link")), "", "", *whole), case.setup.step_ms)
+        check_diagram(0, Link(str(edit.get("link")), "", "", *whole), case.setup.step_ms, case.setup.carry)
     except BadCase as fault:
         if fault.cause == cause:
             field = f"{cause.split()[1]}: " if cause.split()[0] in ("Zero", "Over") else ""

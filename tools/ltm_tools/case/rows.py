@@ -2,18 +2,27 @@
 (docs/MODEL.md)."""
 from collections.abc import Iterator
 from dataclasses import dataclass, field
+from fractions import Fraction
 
-from ..formats import (MOST_CELLS, MOST_DEMAND_ROWS, MOST_DESTINATIONS, MOST_LINKS, MOST_SLOTS, MOST_SLOT_UNITS,
-                       MOST_SPLIT_ROWS,
-                       MOST_STEP_MS)
+from ..formats import (
+    MOST_CELLS,
+    MOST_DEMAND_ROWS,
+    MOST_DESTINATIONS,
+    MOST_LINKS,
+    MOST_SLOTS,
+    MOST_SLOT_UNITS,
+    MOST_SPLIT_ROWS,
+    MOST_STEP_MS,
+)
 
 
 @dataclass(slots=True)
 class Setup:
     """The file `setup.csv`: the step in ms, the number of slots, what an origin can send in a slot in thousandths of a
     vehicle; whether there are a `signals.csv` and a `limits.csv`; the most cells, rows of demand and as many of splits,
-    links and destinations, each None where the column is not there; and whether what moves through a turn is floored
-    for the turn, and not for each destination."""
+    links and destinations, each None where the column is not there; whether what moves through a turn is floored
+    for the turn, and not for each destination; and whether what is left over of a capacity, rounded down, is carried
+    to the next slot."""
 
     step_ms: int
     slots: int
@@ -25,6 +34,7 @@ class Setup:
     links: int | None = None
     destinations: int | None = None
     moves: bool = False
+    carry: bool = False
 
     @property
     def horizon_ms(self) -> int:
@@ -88,22 +98,54 @@ class Link:
         """What passes in a slot of this step at most, in thousandths of a vehicle, rounded down."""
         return self.jam_per_km * self.free_kmh * self.wave_kmh * step_ms // ((self.free_kmh + self.wave_kmh) * 3600)
 
+    def capacity_at(self, step_ms: int, slot: int) -> int:
+        """What passes in a slot of this step at most where what is left over is carried from slot to slot: what the
+        slots up to it let through together, less what those before it do."""
+        flow = self.jam_per_km * self.free_kmh * self.wave_kmh * step_ms
+        parts = (self.free_kmh + self.wave_kmh) * 3600
+        return flow * (slot + 1) // parts - flow * slot // parts
+
+    def passing(self, step_ms: int, carry: bool) -> Fraction:
+        """What passes in a slot of this step in the mean, in thousandths of a vehicle: rounded down in each, or exactly
+        where what is left over is carried."""
+        flow = self.jam_per_km * self.free_kmh * self.wave_kmh * step_ms
+        return Fraction(flow, (self.free_kmh + self.wave_kmh) * 3600) if carry else Fraction(self.capacity(step_ms))
+
+    def lost(self, step_ms: int) -> Fraction:
+        """The part of the capacity that is lost where it is rounded down in each slot of this step."""
+        flow = self.jam_per_km * self.free_kmh * self.wave_kmh * step_ms
+        return Fraction(flow % ((self.free_kmh + self.wave_kmh) * 3600), flow)
+
+    def most_capacity(self, step_ms: int, carry: bool) -> int:
+        """The most that passes in any slot of this step."""
+        flow = self.jam_per_km * self.free_kmh * self.wave_kmh * step_ms
+        return -(-flow // ((self.free_kmh + self.wave_kmh) * 3600)) if carry else self.capacity(step_ms)
+
     @property
     def least_step_ms(self) -> int:
         """The shortest step in which at least a thousandth of a vehicle passes."""
         return -(-(self.free_kmh + self.wave_kmh) * 3600 // (self.jam_per_km * self.free_kmh * self.wave_kmh))
 
-    @property
-    def passing_step_ms(self) -> int:
+    def passing_step(self, carry: bool) -> int:
         """The longest step in which no more passes than may in a slot, 32 vehicles; 0 where that is none."""
         pace = self.jam_per_km * self.free_kmh * self.wave_kmh
-        return ((MOST_SLOT_UNITS + 1) * (self.free_kmh + self.wave_kmh) * 3600 - 1) // pace
+        parts = (self.free_kmh + self.wave_kmh) * 3600
+        return MOST_SLOT_UNITS * parts // pace if carry else ((MOST_SLOT_UNITS + 1) * parts - 1) // pace
+
+    @property
+    def passing_step_ms(self) -> int:
+        """The same where each slot is rounded down."""
+        return self.passing_step(False)
 
     @property
     def longest_step_ms(self) -> int:
         """The longest step at which the program takes the link: both times are at least a step, and no more than 32
         vehicles pass in it."""
-        return min(self.free_ms, self.wave_ms, self.passing_step_ms, MOST_STEP_MS)
+        return self.longest_step(False)
+
+    def longest_step(self, carry: bool) -> int:
+        """The same, or where what is left over of a capacity is carried."""
+        return min(self.free_ms, self.wave_ms, self.passing_step(carry), MOST_STEP_MS)
 
 
 @dataclass(slots=True)

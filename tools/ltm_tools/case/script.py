@@ -37,9 +37,9 @@ def read_line(data: bytes) -> Line:
     try:
         command, passed_over = command_of(value)
         if command == "edit":
-            edits = edits_of(value)
+            edits = batch_edits(value)
             for place, edit in enumerate(edits, 1):
-                passed_over += [f"{name} of edit {place}" for name in edit_of(edit)]
+                passed_over += [f"{name} of edit {place}" for name in unread_members(edit)]
         return Line(command, passed_over=passed_over)
     except NotThat as error:
         return Line(cause=f"NotCommand {place}", reason=str(error))
@@ -56,8 +56,9 @@ def parsed(data: bytes) -> object:
     if text.startswith("\ufeff"):
         raise ValueError("it begins with a mark of its encoding: save the file as UTF-8 without one (BOM)")
     try:
-        value: object = json.loads(text, parse_constant=_no_constant, parse_int=_whole, parse_float=_finite,
-                                   object_pairs_hook=_object)
+        value: object = json.loads(
+            text, parse_constant=_no_constant, parse_int=_whole, parse_float=_finite, object_pairs_hook=_object
+        )
     except json.JSONDecodeError as error:
         what, place = error.msg[0].lower() + error.msg[1:], error.pos
         raise ValueError(f"{what}, at character {place + 1}: {shown(text[place:place + 20])}") from None
@@ -112,17 +113,19 @@ def _depth(text: str) -> int:
 def wanted(value: object, name: str, kind: str, is_kind: Callable[[object], bool]) -> object:
     """The member of an object, of its kind."""
     if not isinstance(value, dict):
-        raise NotThat(f"the member {name} was looked for, and {told(value)} is no object")
+        raise NotThat(f"the member {name} was looked for, and {value_text(value)} is no object")
     if name not in value:
         near = f"; there {'is' if len(value) == 1 else 'are'} {', '.join(value)}" if value else ""
         raise NotThat(f"the member {name} was looked for, and is not there{near}")
     if not is_kind(value[name]):
-        raise NotThat(f"the member {name} is {told(value[name])}, and {kind} is wanted{hint(value[name], is_kind)}")
+        raise NotThat(
+            f"the member {name} is {value_text(value[name])}, and {kind} is wanted{hint(value[name], is_kind)}"
+        )
     found: object = value[name]
     return found
 
 
-def told(value: object) -> str:
+def value_text(value: object) -> str:
     """A value as JSON, cut where it is long."""
     text = json.dumps(value, ensure_ascii=False)
     return text if len(text) <= 60 else text[:57] + ".."
@@ -131,9 +134,9 @@ def told(value: object) -> str:
 def hint(value: object, is_kind: Callable[[object], bool]) -> str:
     """The text for a number, or the number for a text, where that is of the kind."""
     if isinstance(value, (int, float)) and not isinstance(value, bool) and is_kind(json.dumps(value)):
-        return f': {told(value)} as the text "{told(value)}"'
+        return f': {value_text(value)} as the text "{value_text(value)}"'
     if isinstance(value, str) and value.isascii() and value.isdigit() and len(value) < 20 and is_kind(int(value)):
-        return f": {told(value)} as the number {int(value)}"
+        return f": {value_text(value)} as the number {int(value)}"
     return ""
 
 
@@ -203,7 +206,7 @@ def looked_up(value: object, chooser: str, tables: dict[str, Members]) -> tuple[
     word = wanted(value, chooser, *TEXT)
     assert isinstance(word, str) and isinstance(value, dict)
     if word not in tables:
-        raise NotThat(f"the member {chooser} is {told(word)}, and it is one of {', '.join(tables)}")
+        raise NotThat(f"the member {chooser} is {value_text(word)}, and it is one of {', '.join(tables)}")
     for name, kind in tables[word].items():
         wanted(value, name, *kind)
     looked = {chooser, *tables[word]} | MORE.get(word, set())
@@ -215,7 +218,7 @@ def command_of(value: object) -> tuple[str, list[str]]:
     return looked_up(value, "do", COMMANDS)
 
 
-def edits_of(value: object) -> list[object]:
+def batch_edits(value: object) -> list[object]:
     """The edits of a batch."""
     edits = wanted(value, "edits", "an array of edits", is_array)
     assert isinstance(edits, list)
@@ -224,7 +227,7 @@ def edits_of(value: object) -> list[object]:
     return edits
 
 
-def edit_of(value: object) -> list[str]:
+def unread_members(value: object) -> list[str]:
     """The members of an edit that nothing looks at, once it has all that its kind asks for."""
     kind, passed_over = looked_up(value, "kind", EDITS)
     if kind == "split":
@@ -236,26 +239,28 @@ def edit_of(value: object) -> list[str]:
 
 def check_weights(value: object) -> None:
     """Whether the member `weights` of an object has weights."""
-    weights = wanted(value, "weights", "an object, as {\"a\": 1}", is_object)
+    weights = wanted(value, "weights", 'an object, as {"a": 1}', is_object)
     assert isinstance(weights, dict)
     if not 1 <= len(weights) <= MOST_WEIGHTS:
         raise NotThat(f"the member weights has {len(weights)} members, and 1 to {MOST_WEIGHTS} are wanted")
     for name in weights:
         if not is_name(name):
-            raise NotThat(f"the member weights has {told(name)}, which is no name ({NAME_RULE})")
+            raise NotThat(f"the member weights has {value_text(name)}, which is no name ({NAME_RULE})")
         wanted(weights, name, *WHOLE)
 
 
 def check_rows(value: object) -> None:
     """Whether the member `rows` of an object has rows, each a slot and weights."""
-    rows = wanted(value, "rows", "an array of rows, as [[0, {\"a\": 1}]]", is_array)
+    rows = wanted(value, "rows", 'an array of rows, as [[0, {"a": 1}]]', is_array)
     assert isinstance(rows, list)
     if not rows:
-        raise NotThat("the member rows is empty, and has a row or more, as [[0, {\"a\": 1}]]")
+        raise NotThat('the member rows is empty, and has a row or more, as [[0, {"a": 1}]]')
     for number, row in enumerate(rows, 1):
         if not isinstance(row, list) or len(row) != 2:
-            raise NotThat(f"row {number} of the member rows is {told(row)}, and a slot and weights are wanted, as [0,"
-                          f" {{\"a\": 1}}]")
+            raise NotThat(
+                f"row {number} of the member rows is {value_text(row)}, and a slot and weights are wanted, as [0,"
+                f' {{"a": 1}}]'
+            )
         try:
             pair = {"slot": row[0], "weights": row[1]}
             wanted(pair, "slot", *WHOLE)

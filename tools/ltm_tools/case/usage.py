@@ -6,7 +6,7 @@ from collections.abc import Sequence
 WORDS = {
     "load": "load, the report of the loading",
     "delay": "delay, the queues and the delay of the loading",
-    "gap": "gap, what all spend against the least at the link times of the loading",
+    "gap": "gap, travel time beside an estimate of it on the fastest routes",
     "routes": "routes or routes times, least routes",
     "try": "try START NODES, a made case: NODES is 4 to 400",
     "session": "session N, with N workers, 0 to 64",
@@ -41,8 +41,11 @@ def usage_fault(words: Sequence[str]) -> str:
     if first == "try":
         found = re.fullmatch("([0-9]{1,20}) ([0-9]{1,3})", " ".join(rest), re.ASCII) if len(rest) == 2 else None
         fits = found is not None and int(found[1]) < 2**64 and 4 <= int(found[2]) <= 400
-        return ("" if fits else "try takes two numbers: START, 1 to 20 digits with a value below 2 to the 64, and"
-                " NODES, 4 to 400")
+        return (
+            ""
+            if fits
+            else "try takes two numbers: START, 1 to 20 digits with a value below 2 to the 64, and NODES, 4 to 400"
+        )
     if first == "routes" and rest == ["times"]:
         return ""
     return f"{first} takes no more words, and here follows {rest[0]!r}" if rest else ""

@@ -17,8 +17,10 @@ def check_splits(case: Rows) -> None:
     for split in splits:
         pair = split.node, split.destination
         begins[pair] = min(split.from_slot, begins.get(pair, split.from_slot))
-    for pair in sorted({(row.origin, row.destination) for row in case.standing_demand()},
-                       key=lambda pair: (nodes[pair[0]], ends[pair[1]])):
+    for pair in sorted(
+        {(row.origin, row.destination) for row in case.standing_demand()},
+        key=lambda pair: (nodes[pair[0]], ends[pair[1]]),
+    ):
         if pair not in begins:
             raise no_row(case, pair[0], pair[1], f"vehicles set out from {pair[0]} for {pair[1]}")
     by_node = _out_links(case)
@@ -28,7 +30,7 @@ def check_splits(case: Rows) -> None:
             raise late_row(split.node, split.destination, first)
         for name, head in by_node[split.node]:
             if split.weights.get(name, 0) and head != split.destination and (head, split.destination) not in begins:
-                raise no_row(case, head, split.destination, f"{told(split)} over {name} to {head}")
+                raise no_row(case, head, split.destination, f"{split_told(split)} over {name} to {head}")
 
 
 def _out_links(case: Rows) -> dict[str, list[tuple[str, str]]]:
@@ -39,7 +41,7 @@ def _out_links(case: Rows) -> dict[str, list[tuple[str, str]]]:
     return found
 
 
-def told(split: Split) -> str:
+def split_told(split: Split) -> str:
     """The splits of a row in words."""
     since = f" from slot {split.from_slot} on" if split.from_slot else ""
     return f"traffic for {split.destination} is sent from {split.node}{since}"
@@ -50,18 +52,27 @@ def no_row(case: Rows, node: str, destination: str, reason: str) -> BadCase:
     links = [name for name, _ in _out_links(case)[node]]
     if not links:
         return bad_case.no_split(node, destination, f"{reason}, and no link leaves {node}", "send it another way")
-    row = (f"{node},{destination},0,{links[0]}=1" if len(links) == 1 else f"{node},{destination},0,LINK=1, with LINK"
-           f" one of {', '.join(links)},")
-    return bad_case.no_split(node, destination, f"{reason}, and no row of splits.csv says how it goes on from {node}",
-                             f"add {row} to splits.csv; ltm routes writes a whole one, of the fastest ways")
+    row = (
+        f"{node},{destination},0,{links[0]}=1"
+        if len(links) == 1
+        else f"{node},{destination},0,LINK=1, with LINK one of {', '.join(links)},"
+    )
+    return bad_case.no_split(
+        node,
+        destination,
+        f"{reason}, and no row of splits.csv says how it goes on from {node}",
+        f"add {row} to splits.csv; ltm routes writes a whole one, of the fastest ways",
+    )
 
 
 def late_row(node: str, destination: str, first: int) -> BadCase:
     """The fault of a pair whose first row begins after slot 0."""
-    return bad_case.no_split(node, destination,
-                             f"the first row of splits.csv for node {node} and destination {destination} begins at slot"
-                             f" {first}",
-                             "let it begin at slot 0, or add one that does")
+    return bad_case.no_split(
+        node,
+        destination,
+        f"the first row of splits.csv for node {node} and destination {destination} begins at slot {first}",
+        "let it begin at slot 0, or add one that does",
+    )
 
 
 def reached(case: Rows) -> dict[str, set[str]]:
@@ -83,7 +94,7 @@ def leading(before: Mapping[str, Iterable[str]], node: str) -> set[str]:
     return found
 
 
-def rows_of(reach: Mapping[str, set[str]]) -> int:
+def rows_of_reach(reach: Mapping[str, set[str]]) -> int:
     """How many rows the routes to destinations make, by the nodes from which links lead there: one at each other
     node."""
     return sum(len(found) - 1 for found in reach.values())
@@ -91,14 +102,14 @@ def rows_of(reach: Mapping[str, set[str]]) -> int:
 
 def route_rows(case: Rows) -> int:
     """How many rows `ltm routes` makes of a case."""
-    return rows_of(reached(case))
+    return rows_of_reach(reached(case))
 
 
 def check_routes(case: Rows) -> None:
     """Whether there is a route for all demand, and routes make no more rows than may be."""
     nodes = {node: number for number, node in enumerate(case.nodes)}
     reach = reached(case)
-    rows = rows_of(reach)
+    rows = rows_of_reach(reach)
     if rows > case.setup.most_split_rows:
         raise bad_case.too_many_routes(rows, case.setup.most_split_rows)
     pairs = {(row.origin, row.destination) for row in case.standing_demand()}
@@ -113,5 +124,6 @@ def check_cells(case: Rows) -> None:
     """Whether the cells are within the limit of the setup."""
     cells = case.cells()
     if cells > case.setup.most_cells:
-        raise bad_case.cells_over(cells, case.setup.most_cells, case.slots_that_fit(), case.setup.slots,
-                                  produced_bytes(case))
+        raise bad_case.cells_over(
+            cells, case.setup.most_cells, case.slots_that_fit(), case.setup.slots, produced_bytes(case)
+        )

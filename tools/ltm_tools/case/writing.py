@@ -4,19 +4,29 @@ from collections.abc import Iterable, Iterator, Sequence
 
 from ..errors import Fault
 from ..files import make_folder, write_lines, write_records
-from ..formats import HEADERS, SETUP, is_name, short_vehicles, weights_text
+from ..formats import DEMAND, HEADERS, SETUP, SPLITS, is_name, short_vehicles, weights_text
 from ..replacing import SETUP_FILE, together
-from .rows import Rows, Split
+from .rows import Demand, Rows, Split
 
 
-def demand_records(case: Rows) -> Iterator[Sequence[object]]:
+def demand_records(demand: Iterable[Demand]) -> Iterator[Sequence[object]]:
     """The records of `demand.csv` behind its header."""
-    return ([row.origin, row.destination, row.from_slot, row.to_slot, short_vehicles(row.units)] for row in case.demand)
+    return ([row.origin, row.destination, row.from_slot, row.to_slot, short_vehicles(row.units)] for row in demand)
 
 
 def split_records(splits: Iterable[Split]) -> Iterator[Sequence[object]]:
     """The records of `splits.csv` behind its header."""
     return ([row.node, row.destination, row.from_slot, weights_text(row.weights)] for row in splits)
+
+
+def write_demand(folder: str | os.PathLike[str], demand: Iterable[Demand]) -> None:
+    """Writes the `demand.csv` of a case."""
+    write_records(os.path.join(folder, "demand.csv"), DEMAND, demand_records(demand))
+
+
+def write_splits(folder: str | os.PathLike[str], splits: Iterable[Split]) -> None:
+    """Writes the `splits.csv` of a case."""
+    write_records(os.path.join(folder, "splits.csv"), SPLITS, split_records(splits))
 
 
 def write_rows(case: Rows, folder: str | os.PathLike[str]) -> None:
@@ -34,20 +44,30 @@ def write_rows(case: Rows, folder: str | os.PathLike[str]) -> None:
     more |= {name: most for name, most in asked.items() if most is not None}
     if setup.moves:
         more["moves"] = 1
+    if setup.carry:
+        more["carry"] = 1
     rows: dict[str, Iterable[Sequence[object]]] = {
-        "links": ([link.name, link.tail, link.head, link.length_m, link.free_kmh, link.wave_kmh, link.jam_per_km]
-                  for link in case.links),
-        "demand": demand_records(case),
+        "links": (
+            [link.name, link.tail, link.head, link.length_m, link.free_kmh, link.wave_kmh, link.jam_per_km]
+            for link in case.links
+        ),
+        "demand": demand_records(case.demand),
     }
     if case.splits is not None:
         rows["splits"] = split_records(case.splits)
     with together():
         make_folder(folder)
-        write_records(os.path.join(folder, SETUP_FILE), (*SETUP, *more),
-                      [[setup.step_ms, setup.slots, short_vehicles(setup.origin_capacity), *more.values()]])
+        write_records(
+            os.path.join(folder, SETUP_FILE),
+            (*SETUP, *more),
+            [[setup.step_ms, setup.slots, short_vehicles(setup.origin_capacity), *more.values()]],
+        )
         for file, lines in rows.items():
             write_records(os.path.join(folder, f"{file}.csv"), HEADERS[file], lines)
         for file, limits in (("signals", case.signals), ("limits", case.limits)):
             if file in more:
-                write_lines(os.path.join(folder, f"{file}.csv"), HEADERS[file],
-                            (f"{row.link},{row.from_slot},{row.to_slot},{short_vehicles(row.units)}" for row in limits))
+                write_lines(
+                    os.path.join(folder, f"{file}.csv"),
+                    HEADERS[file],
+                    (f"{row.link},{row.from_slot},{row.to_slot},{short_vehicles(row.units)}" for row in limits),
+                )

@@ -7,21 +7,21 @@ from fractions import Fraction
 from pathlib import Path
 
 from ..case import Case, Demand
-from ..formats import MINUTE_MS
+from ..case.roads import Roads
+from ..demand.route_splits import Route
+from ..formats import MINUTE_MS, many
 from ..network.crossings.chosen import chosen
 from ..network.crossings.expand import Expanded, Form, cut_as_they_are, expand
-from ..network.crossings.limits import limits_of
+from ..network.crossings.limits import turn_limits
 from ..network.crossings.movements import Movements
 from ..network.crossings.options import CrossingOptions
 from ..network.crossings.sources import links_of_turns
-from ..network.crossings.told import crossings_told, turns_told, whole_told
+from ..network.crossings.told import crossings_told, saturation_told, turns_told, whole_told
 from ..network.crossings.turn import turns_of
 from ..network.crossings.turns_file import Turns
 from ..network.crossings.volumes import volumes_of
 from ..network.importing import Carried
 from ..network.options import Options
-from ..network.passages import Roads
-from ..network.route_splits import Route
 from ..network.steps import longest_step
 from .movements import all_turns, by_signs, lanes_of, read_movements
 from .net import Read
@@ -29,7 +29,7 @@ from .signals import read_signals
 
 
 @dataclass
-class Turned:
+class TurnedNetwork:
     """A network with turns as links: the turns that it allows, what has become of its crossings, and what each approach
     lets pass in an hour."""
 
@@ -38,7 +38,7 @@ class Turned:
     capacities: dict[str, Fraction]
 
 
-def turn(folder: Path, read: Read, begins: set[str], ends: set[str], options: Options) -> Turned | None:
+def turn(folder: Path, read: Read, begins: set[str], ends: set[str], options: Options) -> TurnedNetwork | None:
     """Makes links of the turns of the crossings that are asked for; none where there are none. Trips begin and end at
     these nodes, and the zones of the network follow."""
     network, asked = read.network, options.crossings
@@ -53,34 +53,51 @@ def turn(folder: Path, read: Read, begins: set[str], ends: set[str], options: Op
     if not picked.crossings and not picked.parted:
         return None
     capacities = {name: road.capacity for name, road in network.roads.items()}
-    made = expand(network, movements, picked, Form(step=step, length_m=asked.length_m, ends=ends, begins=begins))
-    network.origins = {zone: {made.origins.get(node, node): share for node, share in of.items()}
-                       for zone, of in network.origins.items()}
+    form = Form(step=step, length_m=asked.length_m, ends=ends, begins=begins, saturation=asked.saturation)
+    made = expand(network, movements, picked, form)
+    network.origins = {
+        zone: {made.origins.get(node, node): share for node, share in of.items()}
+        for zone, of in network.origins.items()
+    }
     network.signals = {road for pair, road in made.links.items() if turns[pair].held is not None}
     read.notes += crossings_told(made, 0)
-    return Turned(movements, made, capacities)
+    return TurnedNetwork(movements, made, capacities)
 
 
-def turns_of_case(made: Carried, turned: Turned, case: Case, asked: CrossingOptions, read: Read) -> Turns:
+def turns_of_case(made: Carried, turned: TurnedNetwork, case: Case, asked: CrossingOptions, read: Read) -> Turns:
     """The turns of the case, whose limits are added to its signals; traffic is counted as it were if all took the least
     route."""
     links = {link.name: link for link in case.links}
     roads = Roads.of(case.links)
-    volumes = volumes_of(least(roads, case.demand, case.setup.step_ms, asked.slice_minutes * MINUTE_MS), roads,
-                         asked.slice_minutes * MINUTE_MS)
-    turns = turns_of(links_of_turns(made.source, turned.expanded), turned.movements, turned.capacities,
-                     asked.permissive, {})
-    case.signals += limits_of(turns, volumes, links, case.setup)
+    volumes = volumes_of(
+        least_routes_by_slice(roads, case.demand, case.setup.step_ms, asked.slice_minutes * MINUTE_MS),
+        roads,
+        asked.slice_minutes * MINUTE_MS,
+    )
+    turns = turns_of(
+        links_of_turns(made.source, turned.expanded),
+        turned.movements,
+        turned.capacities,
+        asked.permissive,
+        {},
+        asked.saturation,
+        turned.expanded.uncut(),
+    )
+    case.signals += turn_limits(turns, volumes, links, case.setup)
     case.setup.signals = bool(case.signals)
-    read.notes += [*([f"{len(case.signals)} records of signals"] if case.signals else []),
-                   *turns_told(turns, volumes, links, case.setup)]
+    read.notes += [
+        *([f"{many(len(case.signals), 'record')} of signals"] if case.signals else []),
+        *saturation_told(turns),
+        *turns_told(turns, volumes, links, case.setup, read.streets),
+    ]
     if any(one.permitted for one in turns):
-        read.notes.append("traffic at crossings is counted by least routes: ltm-tools turns CASE ROUTES counts it by"
-                          " others")
+        read.notes.append(
+            "traffic at crossings is counted by least routes: ltm-tools turns CASE ROUTES counts it by others"
+        )
     return Turns(tuple(turns), volumes)
 
 
-def least(roads: Roads, demand: Iterable[Demand], step_ms: int, slice_ms: int) -> Iterator[Route]:
+def least_routes_by_slice(roads: Roads, demand: Iterable[Demand], step_ms: int, slice_ms: int) -> Iterator[Route]:
     """The least routes of rows of demand, each in parts of at most a slice."""
     times: dict[str, dict[str, int]] = {}
     for row in demand:
@@ -98,8 +115,10 @@ def least_route(roads: Roads, node: str, times: dict[str, int]) -> tuple[str, ..
     """The links of a least route by the least times to its destination; none where no way leads there."""
     links: list[str] = []
     while node in times and times[node]:
-        name = min((name for name in roads.outs[node] if roads.links[name].head in times),
-                   key=lambda name: roads.links[name].free_ms + times[roads.links[name].head])
+        name = min(
+            (name for name in roads.outs[node] if roads.links[name].head in times),
+            key=lambda name: roads.links[name].free_ms + times[roads.links[name].head],
+        )
         links.append(name)
         node = roads.links[name].head
     return tuple(links)

@@ -11,16 +11,24 @@ from ..files import Row
 from ..formats import above_0_or_none, exact_or_none
 from ..network.lengths import MOST_PLACE
 
-METRES = {"m": Fraction(1), "km": Fraction(1000), "mi": Fraction(1609344, 1000), "ft": Fraction(3048, 10000)}
 KMH = {"kmh": Fraction(1), "mph": Fraction(1609344, 1000000), "ms": Fraction(18, 5)}
-LENGTH_WORDS = {"m": "m", "meter": "m", "meters": "m", "metre": "m", "metres": "m", "km": "km", "kilometer": "km",
-                "kilometers": "km",
-                "kilometre": "km", "kilometres": "km", "mi": "mi", "mile": "mi", "miles": "mi", "ft": "ft",
-                "foot": "ft", "feet": "ft"}
-SPEED_WORDS = {"kmh": "kmh", "kph": "kmh", "km/h": "kmh", "kmph": "kmh", "km/hr": "kmh", "kilometers per hour": "kmh",
-               "kilometres per hour": "kmh",
-               "mph": "mph", "mi/h": "mph", "mi/hr": "mph", "miles per hour": "mph", "m/s": "ms", "mps": "ms",
-               "meters per second": "ms", "metres per second": "ms"}
+SPEED_WORDS = {
+    "kmh": "kmh",
+    "kph": "kmh",
+    "km/h": "kmh",
+    "kmph": "kmh",
+    "km/hr": "kmh",
+    "kilometers per hour": "kmh",
+    "kilometres per hour": "kmh",
+    "mph": "mph",
+    "mi/h": "mph",
+    "mi/hr": "mph",
+    "miles per hour": "mph",
+    "m/s": "ms",
+    "mps": "ms",
+    "meters per second": "ms",
+    "metres per second": "ms",
+}
 EMPTY = ("", "nan", "none", "null")
 THOUSANDS = re.compile(r"[0-9]{1,3}(?:,[0-9]{3})+(?:\.[0-9]*)?")
 MEASURE = re.compile(r"([0-9.]+(?:[eE][-+]?[0-9]+)?)\s*([a-z/ ]+)")
@@ -28,23 +36,66 @@ LIST = re.compile(r"[\[{(]?\s*['\"]?[0-9.]+(?:['\"]?\s*[;,|]\s*['\"]?[0-9.]+)+['
 
 LINK_NAMES = {
     "link_id": ("id", "linkid", "link", "no", "link_no"),
-    "from_node_id": ("from_node", "a_node", "from", "a", "from_id", "anode", "node_a", "fromnode", "from_node_no",
-                     "fromnodeno", "init_node", "start_node", "inode",
-                     "source", "u"),
-    "to_node_id": ("to_node", "b_node", "to", "b", "to_id", "bnode", "node_b", "tonode", "to_node_no", "tonodeno",
-                   "term_node", "end_node", "jnode", "target", "v"),
+    "from_node_id": (
+        "from_node",
+        "a_node",
+        "from",
+        "a",
+        "from_id",
+        "anode",
+        "node_a",
+        "fromnode",
+        "from_node_no",
+        "fromnodeno",
+        "init_node",
+        "start_node",
+        "inode",
+        "source",
+        "u",
+    ),
+    "to_node_id": (
+        "to_node",
+        "b_node",
+        "to",
+        "b",
+        "to_id",
+        "bnode",
+        "node_b",
+        "tonode",
+        "to_node_no",
+        "tonodeno",
+        "term_node",
+        "end_node",
+        "jnode",
+        "target",
+        "v",
+    ),
     "length": ("length_m", "link_length", "distance", "dist"),
-    "free_speed": ("freespeed", "speed", "speed_limit", "speedlimit", "free_flow_speed", "vf", "ffs", "maxspeed",
-                   "v0prt"),
+    "free_speed": (
+        "freespeed",
+        "speed",
+        "speed_limit",
+        "speedlimit",
+        "free_flow_speed",
+        "vf",
+        "ffs",
+        "maxspeed",
+        "v0prt",
+    ),
     "lanes": ("lane", "num_lanes", "numlanes", "nlanes", "permlanes", "lane_count", "number_of_lanes"),
     "capacity": ("cap", "link_capacity", "capacity_per_lane", "capprt"),
     "facility_type": ("link_type_name", "type", "highway", "road_type", "class", "typeno", "link_type"),
-    "directed": ("is_directed", "oneway"), "allowed_uses": ("allowed_use", "uses", "modes"),
+    "directed": ("is_directed", "oneway"),
+    "allowed_uses": ("allowed_use", "uses", "modes"),
     "geometry": ("wkt", "geom", "shape"),
 }
-NODE_NAMES = {"node_id": ("id", "nodeid", "node", "no", "node_no", "osmid"),
-              "x_coord": ("x", "lon", "longitude", "xcoord"), "y_coord": ("y", "lat", "latitude", "ycoord"),
-              "zone_id": ("zone", "zoneid", "taz"), "zone_share": ("share", "zone_weight")}
+NODE_NAMES = {
+    "node_id": ("id", "nodeid", "node", "no", "node_no", "osmid"),
+    "x_coord": ("x", "lon", "longitude", "xcoord"),
+    "y_coord": ("y", "lat", "latitude", "ycoord"),
+    "zone_id": ("zone", "zoneid", "taz"),
+    "zone_share": ("share", "zone_weight"),
+}
 
 KINDS = (
     # words in a kind, vehicles an hour and lane, km/h, lanes
@@ -58,8 +109,20 @@ KINDS = (
     (("residential", "local", "unclassified", "living", "service", "track", "road"), 1400, 30, 1),
 )
 OTHER_KIND = 1700, 50, 1
-NOT_FOR_CARS = ("footway", "path", "pedestrian", "cycleway", "steps", "rail", "tram", "subway", "bridleway", "ferry",
-                "walk", "bike")
+NOT_FOR_CARS = (
+    "footway",
+    "path",
+    "pedestrian",
+    "cycleway",
+    "steps",
+    "rail",
+    "tram",
+    "subway",
+    "bridleway",
+    "ferry",
+    "walk",
+    "bike",
+)
 CAR_USES = ("auto", "car", "all", "motor", "vehicle", "truck", "hov", "sov", "drive", "passenger")
 YES, NO = ("1", "true", "t", "yes", "y"), ("0", "false", "f", "no", "n")
 
@@ -102,18 +165,21 @@ def number_or_none(row: Row, name: str) -> float | None:
     return value if math.isfinite(value) and abs(value) < MOST_PLACE else None
 
 
-def kind_of(text: str) -> tuple[int, int, int]:
+def kind_defaults(text: str) -> tuple[int, int, int]:
     """Vehicles an hour and lane, km/h and lanes that a link of a kind has where nothing else is said."""
     low = text.lower()
-    return next(((flow, kmh, lanes) for words, flow, kmh, lanes in KINDS if any(word in low for word in words)),
-                OTHER_KIND)
+    return next(
+        ((flow, kmh, lanes) for words, flow, kmh, lanes in KINDS if any(word in low for word in words)), OTHER_KIND
+    )
 
 
 def for_cars(row: Row) -> bool:
     """Whether cars may use a link."""
     uses = row.text("allowed_uses", "").lower()
-    if uses and not any(word in uses for word in CAR_USES) and any(word in uses
-                                                                   for word in (*NOT_FOR_CARS, "ped", "transit", "bus",
-                                                                                "cycl")):
+    if (
+        uses
+        and not any(word in uses for word in CAR_USES)
+        and any(word in uses for word in (*NOT_FOR_CARS, "ped", "transit", "bus", "cycl"))
+    ):
         return False
     return not any(word in row.text("facility_type", "").lower().split("|")[0] for word in NOT_FOR_CARS)

@@ -11,20 +11,24 @@ from dataclasses import dataclass, field
 from fractions import Fraction
 from pathlib import Path
 
+from ..demand.cycles import Green
 from ..files import Row
 from ..formats import MINUTE_MS
 from ..network.crossings.movements import Held, Movement, Pair
 from ..network.crossings.options import MINOR_GAP
-from ..network.cycles import Green
 from ..network.network import Network
-from ..tables import read, whole_numbers
+from ..tables import read, whole_ids
 from .fields import EMPTY, fraction_or_none, number_or_none
 from .net import Read, file_of
 
-NAMES = {"mvmt_id": ("movement_id", "id", "mvmt"), "node_id": ("node",),
-         "ib_link_id": ("ib_link", "inbound_link_id", "in_link_id", "from_link_id"),
-         "ob_link_id": ("ob_link", "outbound_link_id", "out_link_id", "to_link_id"),
-         "type": ("mvmt_type", "movement_type"), "ctrl_type": ("control_type", "control", "ctrl")}
+NAMES = {
+    "mvmt_id": ("movement_id", "id", "mvmt"),
+    "node_id": ("node",),
+    "ib_link_id": ("ib_link", "inbound_link_id", "in_link_id", "from_link_id"),
+    "ob_link_id": ("ob_link", "outbound_link_id", "out_link_id", "to_link_id"),
+    "type": ("mvmt_type", "movement_type"),
+    "ctrl_type": ("control_type", "control", "ctrl"),
+}
 SIGNALS = ("signal", "signal_with_rtor", "signalized")
 SIGNS = ("stop", "stop_2_way", "yield")
 ALL_STOP = "stop_4_way"
@@ -32,7 +36,7 @@ MOST_LANE = 30
 
 
 @dataclass
-class Told:
+class MovementTurns:
     """The turns that `movement.csv` tells: by approach and exit, their type as `left`, and by `mvmt_id`; those that a
     signal is to hold."""
 
@@ -44,14 +48,14 @@ class Told:
     """Those that yield at a sign."""
 
 
-def read_movements(folder: Path, made: Read) -> Told:
+def read_movements(folder: Path, made: Read) -> MovementTurns:
     """The turns that a folder tells; none where it has no `movement.csv`."""
-    path, told = file_of(folder, "movement.csv"), Told()
+    path, told = file_of(folder, "movement.csv"), MovementTurns()
     if not path.exists():
         return told
     table = read(path, ("ib_link_id", "ob_link_id"), NAMES, made.units.reading)
     made.notes += table.notes
-    whole_numbers(table.rows, ("mvmt_id", "node_id", "ib_link_id", "ob_link_id"))
+    whole_ids(table.rows, ("mvmt_id", "node_id", "ib_link_id", "ob_link_id"))
     unknown = all_stop = 0
     for row in table.rows:
         pair = pair_of(row, made.network)
@@ -67,10 +71,14 @@ def read_movements(folder: Path, made: Read) -> Told:
         elif control in SIGNS:
             told.signs.add(pair)
         all_stop += control == ALL_STOP
-    made.notes += [f"{count} rows of movement.csv {why}" for count, why in
-                   ((unknown, "are between links that do not meet, or are not for cars, and are left out"),
-                    (all_stop, "have a stop sign for all ways, which is not carried: vehicles there do not wait"))
-                   if count]
+    made.notes += [
+        f"{count} rows of movement.csv {why}"
+        for count, why in (
+            (unknown, "are between links that do not meet, or are not for cars, and are left out"),
+            (all_stop, "have a stop sign for all ways, which is not carried: vehicles there do not wait"),
+        )
+        if count
+    ]
     return told
 
 
@@ -103,11 +111,12 @@ def movement_of(row: Row, pair: Pair, made: Read) -> Movement:
     penalty = number_or_none(row, "penalty") or 0.0
     if penalty < 0:
         made.count("have a turn with a penalty below 0, which counts as 0")
-    return Movement(*pair, lanes, capacity=fraction_or_none(row, "capacity"),
-                    penalty_ms=round(max(0.0, penalty) * 1000))
+    return Movement(
+        *pair, lanes, capacity=fraction_or_none(row, "capacity"), penalty_ms=round(max(0.0, penalty) * 1000)
+    )
 
 
-def all_turns(told: Told, network: Network) -> dict[Pair, Movement]:
+def all_turns(told: MovementTurns, network: Network) -> dict[Pair, Movement]:
     """The turns at all nodes: those that are told, and where nothing is told of a node all but those back."""
     known = {network.roads[approach].head for approach, _ in told.turns}
     made: dict[Pair, Movement] = {}
@@ -122,28 +131,43 @@ def all_turns(told: Told, network: Network) -> dict[Pair, Movement]:
     return made
 
 
-def by_signs(told: Told, network: Network, jam: Fraction) -> dict[Pair, Held]:
+def by_signs(told: MovementTurns, network: Network, jam: Fraction) -> dict[Pair, Held]:
     """How turns yield at signs: to those from elsewhere at their node that have neither sign nor signal and go straight
     on or to the left or have the same exit, a turn to the right to those with its exit alone."""
     made: dict[Pair, Held] = {}
     first = [pair for pair in told.turns if pair not in told.signs and pair not in told.signals]
     for pair in told.signs:
-        others = [other for other in first if other[0] != pair[0]
-                  and network.roads[other[0]].head == network.roads[pair[0]].head
-                  and (other[1] == pair[1] or "right" not in (told.types[pair], told.types[other]))]
+        others = [
+            other
+            for other in first
+            if other[0] != pair[0]
+            and network.roads[other[0]].head == network.roads[pair[0]].head
+            and (other[1] == pair[1] or "right" not in (told.types[pair], told.types[other]))
+        ]
         if others:
-            made[pair] = Held((), (Green(MINUTE_MS, 0, MINUTE_MS),), tuple(others),
-                              lanes_with(others, told, network, jam), MINOR_GAP)
+            made[pair] = Held(
+                (), (Green(MINUTE_MS, 0, MINUTE_MS),), tuple(others), lanes_with(others, told, network, jam), MINOR_GAP
+            )
     return made
 
 
-def lanes_with(turns: Iterable[Pair], told: Told, network: Network, jam: Fraction) -> tuple[tuple[str, int], ...]:
+def lanes_with(
+    turns: Iterable[Pair], told: MovementTurns, network: Network, jam: Fraction
+) -> tuple[tuple[str, int], ...]:
     """The lanes of some turns that are told, each an approach and a number."""
-    return tuple(dict.fromkeys((pair[0], lane) for pair in turns for lane in told.turns[pair].lanes
-                               or range(max(1, round(network.roads[pair[0]].jam / jam)))))
+    return tuple(
+        dict.fromkeys(
+            (pair[0], lane)
+            for pair in turns
+            for lane in told.turns[pair].lanes or range(max(1, round(network.roads[pair[0]].jam / jam)))
+        )
+    )
 
 
 def lanes_of(network: Network, jam: Fraction, turns: Mapping[Pair, Movement]) -> dict[str, int]:
     """How many lanes approaches have of which the lanes of turns are told, by what they store."""
-    return {approach: max(1, round(network.roads[approach].jam / jam)) for (approach, _), turn in turns.items()
-            if turn.lanes}
+    return {
+        approach: max(1, round(network.roads[approach].jam / jam))
+        for (approach, _), turn in turns.items()
+        if turn.lanes
+    }

@@ -12,18 +12,33 @@ from fractions import Fraction
 from pathlib import Path
 
 from ..errors import Fault
+from ..formats import agreeing, many
 from ..files import Row
-from ..network.lengths import metres, points_of, unit_by_lengths, unit_by_range
+from ..network.lengths import LENGTH_WORDS, METRES, metres, wkt_points, unit_by_lengths, unit_by_range
 from ..network.lines import Point, towards
 from ..network.network import LEAST_M, Network, Node, Road, road_of
-from ..tables import Reading, Table, read, whole_numbers
-from .fields import (EMPTY, KMH, LENGTH_WORDS, LINK_NAMES, METRES, NO, NODE_NAMES, SPEED_WORDS, YES, for_cars,
-                     fraction_or_none, fraction_zero, kind_of, least_of, measure, number_or_none)
+from ..tables import Reading, Table, read, whole_ids
+from .fields import (
+    EMPTY,
+    KMH,
+    LINK_NAMES,
+    NO,
+    NODE_NAMES,
+    SPEED_WORDS,
+    YES,
+    for_cars,
+    fraction_or_none,
+    fraction_zero,
+    kind_defaults,
+    least_of,
+    measure,
+    number_or_none,
+)
 from .sides import TurnedRow, by_side
 
 
 @dataclass
-class Units:
+class FieldUnits:
     """The units of a network's fields; None where nothing says them."""
 
     length: str | None = None
@@ -46,10 +61,14 @@ class Read:
 
     network: Network = field(default_factory=Network)
     faults: list[str] = field(default_factory=list)
+    guesses: list[str] = field(default_factory=list)
+    """What was guessed, which is reported before all else, a line each."""
     notes: list[str] = field(default_factory=list)
     counts: dict[str, int] = field(default_factory=dict)
+    streets: dict[str, str] = field(default_factory=dict)
+    """The name of the street of each link that has one."""
     nodes: Table | None = None
-    units: Units = field(default_factory=Units)
+    units: FieldUnits = field(default_factory=FieldUnits)
 
     def count(self, what: str) -> None:
         """Counts a link for which something was set, or that was left out."""
@@ -57,10 +76,10 @@ class Read:
 
     def told(self) -> list[str]:
         """What was set and left out, a line each."""
-        return [*self.notes, *(f"{count} links {what}" for what, count in self.counts.items())]
+        return [*self.notes, *(f"{many(count, 'link')} {agreeing(what, count)}" for what, count in self.counts.items())]
 
 
-def read_gmns(folder: Path, units: Units) -> Read:
+def read_gmns(folder: Path, units: FieldUnits) -> Read:
     """The network in a folder; its `faults` are to be looked at."""
     path = file_of(folder, "link.csv")
     if not path.exists():
@@ -71,16 +90,18 @@ def read_gmns(folder: Path, units: Units) -> Read:
     table = read(path, ("from_node_id", "to_node_id"), LINK_NAMES, units.reading)
     made.notes += table.notes
     if not units.turns and file_of(folder, "movement.csv").exists():
-        made.notes.append("movement.csv is not read: from each link traffic may go on by each link that leaves its end"
-                          " node, except where splits do not send it")
-    whole_numbers(table.rows, ("link_id", "from_node_id", "to_node_id"))
+        made.notes.append(
+            "movement.csv is not read: from each link traffic may go on by each link that leaves its end"
+            " node, except where splits do not send it"
+        )
+    whole_ids(table.rows, ("link_id", "from_node_id", "to_node_id"))
     if "link_id" not in table.fields:
         made.notes.append("link.csv has no link_id; links are named by their ends")
     rows = by_side(table)
     for row in rows:
         plain_numbers(row, made)
     shapes = read_shapes(folder, units)
-    lines = [line_of(row, made, shapes) for row in rows]
+    lines = [link_line(row, made, shapes) for row in rows]
     check_units(rows, lines, made)
     taken: set[str] = set()
     for row, line in zip(rows, lines):
@@ -93,22 +114,29 @@ def read_gmns(folder: Path, units: Units) -> Read:
 def file_of(folder: Path, name: str) -> Path:
     """The file of a name in a folder, in small or in capital letters; the path of that name where there is none."""
     path = folder / name
-    others = sorted(one for one in folder.iterdir() if one.name.lower()
-                    == name) if folder.is_dir() and not path.exists() else []
+    others = (
+        sorted(one for one in folder.iterdir() if one.name.lower() == name)
+        if folder.is_dir() and not path.exists()
+        else []
+    )
     return others[0] if others else path
 
 
 def instead(folder: Path) -> str:
     """What to do with a folder, or a file, that has no link.csv."""
     if not folder.is_dir():
-        return "a folder with link.csv and node.csv is wanted" + (", and this is a file" if folder.exists() else ", and"
-                                                                  " there is none of this name")
+        return "a folder with link.csv and node.csv is wanted" + (
+            ", and this is a file" if folder.exists() else ", and there is none of this name"
+        )
     near = sorted(found.name for found in folder.iterdir())
     packed = next((name for name in near if name.lower().endswith((".zip", ".gz", ".tar", ".7z"))), None)
     links = next((name for name in near if name.lower().endswith((".csv", ".txt")) and "link" in name.lower()), None)
     if links or packed:
-        return (f"if {links} has the links, call it link.csv" if links else f"unpack {packed}, and name the folder of"
-                f" its link.csv")
+        return (
+            f"if {links} has the links, call it link.csv"
+            if links
+            else f"unpack {packed}, and name the folder of its link.csv"
+        )
     return f"it has {', '.join(near[:8])}" if near else "a folder with link.csv and node.csv is wanted, and it is empty"
 
 
@@ -121,8 +149,10 @@ def read_config(folder: Path, made: Read) -> None:
     fields = rows[0].fields if rows else {}
     said = {name: fields.get(name, "").strip().lower() for name in ("long_length", "speed")}
     length, speed = LENGTH_WORDS.get(said["long_length"]), SPEED_WORDS.get(said["speed"])
-    for name, known, option, asked in (("long_length", length, "--length-unit", made.units.length),
-                                       ("speed", speed, "--speed-unit", made.units.speed)):
+    for name, known, option, asked in (
+        ("long_length", length, "--length-unit", made.units.length),
+        ("speed", speed, "--speed-unit", made.units.speed),
+    ):
         if said[name] and not known and not asked:
             raise Fault(f"config.csv: {name} is {said[name]!r}, a unit that is not known; give {option}")
     made.units.crs = made.units.crs or crs_of(fields.get("crs", ""))
@@ -147,7 +177,7 @@ def read_nodes(folder: Path, made: Read) -> Table | None:
         return None
     table = read(path, ("node_id",), NODE_NAMES, made.units.reading)
     made.notes += table.notes
-    whole_numbers(table.rows, ("node_id", "zone_id"))
+    whole_ids(table.rows, ("node_id", "zone_id"))
     for row in table.rows:
         name = row.text("node_id", "")
         if name:
@@ -155,7 +185,7 @@ def read_nodes(folder: Path, made: Read) -> Table | None:
     return table
 
 
-def read_shapes(folder: Path, units: Units) -> dict[str, str]:
+def read_shapes(folder: Path, units: FieldUnits) -> dict[str, str]:
     """The lines of `geometry.csv` by id, where it is there."""
     path = file_of(folder, "geometry.csv")
     if not path.exists():
@@ -173,14 +203,17 @@ def plain_numbers(row: Row, made: Read) -> None:
             made.count(f"have several {name.replace('_', ' ').rstrip('s')}s, of which the least counts")
 
 
-def line_of(row: Row, made: Read, shapes: dict[str, str]) -> list[Point]:
+def link_line(row: Row, made: Read, shapes: dict[str, str]) -> list[Point]:
     """The points of a link: of its geometry, else its ends; none where they have no places."""
-    points = points_of(row.text("geometry", "") or shapes.get(row.text("geometry_id", ""), ""))
+    points = wkt_points(row.text("geometry", "") or shapes.get(row.text("geometry_id", ""), ""))
     if points:
         return points[::-1] if isinstance(row, TurnedRow) else points
     ends = [made.network.nodes.get(row.text(name, "")) for name in ("from_node_id", "to_node_id")]
-    return [(node.x, node.y) for node in ends if node is not None and node.x is not None
-            and node.y is not None] if None not in ends else []
+    return (
+        [(node.x, node.y) for node in ends if node is not None and node.x is not None and node.y is not None]
+        if None not in ends
+        else []
+    )
 
 
 def check_units(rows: Sequence[Row], lines: Sequence[list[Point]], made: Read) -> None:
@@ -200,23 +233,30 @@ def check_units(rows: Sequence[Row], lines: Sequence[list[Point]], made: Read) -
     if made.units.length is None and len(ratios) > 2 and made.units.places == "degrees":
         for other, scale in METRES.items():
             if other != "m" and abs(middle * float(scale) - 1) < 0.15 and not 0.5 < middle < 2:
-                made.notes.append(f"lengths are read as {other}: by the places of nodes and lines they are")
+                made.guesses.append(
+                    f"no unit of lengths is given: they are read as {other}, as the places of nodes and lines say;"
+                    f" --length-unit m reads them as metres"
+                )
                 made.units.length = other
                 return
         if not 0.2 < middle < 5:
-            made.notes.append(f"lengths are {middle:.3g} times what the places of nodes and lines say: look at"
-                              f" --length-unit and --places")
+            made.notes.append(
+                f"lengths are {middle:.3g} times what the places of nodes and lines say: look at"
+                f" --length-unit and --places"
+            )
 
 
-def number(row: Row, name: str, default: Fraction | None, what: str, made: Read) -> Fraction | None:
+def positive_number(row: Row, name: str, default: Fraction | None, what: str, made: Read) -> Fraction | None:
     """The number above 0 of a field; the default, where it is empty; none, with a fault, where there is none."""
     text = row.fields.get(name, "").strip()
     if text.lower() in EMPTY and default is not None:
         return default
     found = fraction_or_none(row, name)
     if found is None:
-        made.faults.append(f"{what}: {name} is {text!r}, and a number above 0 is wanted"
-                           + ("; left empty it is set by the link's kind" if default is not None else ""))
+        made.faults.append(
+            f"{what}: {name} is {text!r}, and a number above 0 is wanted"
+            + ("; left empty it is set by the link's kind" if default is not None else "")
+        )
     return found
 
 
@@ -250,6 +290,8 @@ def read_link(row: Row, line: list[Point], made: Read, taken: set[str]) -> None:
         else:
             taken.add(one.name)
             made.network.add(one)
+            if street := row.text("name", ""):
+                made.streets[one.name] = street
 
 
 def another_name(name: str, taken: set[str]) -> str:
@@ -274,21 +316,28 @@ def both_ways(row: Row, road: Road, made: Read) -> list[Road]:
 def road_of_row(row: Row, name: str, ends: tuple[str, str], line: list[Point], what: str, made: Read) -> Road | None:
     """The road of a row, with what is missing set by its kind."""
     units, kind = made.units, row.text("facility_type", "")
-    lane_flow, kmh, lanes_of_kind = kind_of(kind)
+    lane_flow, kmh, lanes_of_kind = kind_defaults(kind)
     for name_of, word in (("lanes", "lane count"), ("free_speed", "speed"), ("capacity", "capacity")):
         if row.text(name_of, "").lower() in EMPTY:
             made.count(f"get their {word} by their kind")
-    lanes = number(row, "lanes", Fraction(lanes_of_kind if kind else 1), what, made)
-    speed = number(row, "free_speed", Fraction(kmh) / KMH[units.speed or "kmh"], what, made)
+    lanes = positive_number(row, "lanes", Fraction(lanes_of_kind if kind else 1), what, made)
+    speed = positive_number(row, "free_speed", Fraction(kmh) / KMH[units.speed or "kmh"], what, made)
     length = length_of(row, line, what, made)
     whole = units.capacity == "link" and row.text("capacity", "") != ""
-    capacity = number(row, "capacity", Fraction(lane_flow), what, made)
+    capacity = positive_number(row, "capacity", Fraction(lane_flow), what, made)
     if lanes is None or speed is None or length is None or capacity is None:
         return None
     tail, head = (made.network.nodes[end].place if end in made.network.nodes else None for end in ends)
-    return road_of(name, *ends, metres=length, kmh=speed * KMH[units.speed or "kmh"], jam=units.jam * lanes,
-                   capacity=capacity if whole else capacity * lanes, kind=kind,
-                   shape=towards(line, tail, head) if len(line) > 1 else ())
+    return road_of(
+        name,
+        *ends,
+        metres=length,
+        kmh=speed * KMH[units.speed or "kmh"],
+        jam=units.jam * lanes,
+        capacity=capacity if whole else capacity * lanes,
+        kind=kind,
+        shape=towards(line, tail, head) if len(line) > 1 else (),
+    )
 
 
 def length_of(row: Row, line: list[Point], what: str, made: Read) -> Fraction | None:
@@ -296,14 +345,15 @@ def length_of(row: Row, line: list[Point], what: str, made: Read) -> Fraction | 
     text = row.text("length", "").lower()
     drawn = metres(line, made.units.places or "m") if len(line) > 1 else Fraction(0)
     if text not in EMPTY and not (fraction_zero(text) and drawn > 0):
-        length = Fraction(0) if fraction_zero(text) else number(row, "length", None, what, made)
+        length = Fraction(0) if fraction_zero(text) else positive_number(row, "length", None, what, made)
         length = None if length is None else length * METRES[made.units.length or "m"]
     elif drawn > 0:
         made.count("get their length by their places")
         length = drawn
     else:
-        made.faults.append(f"{what}: no length, and no geometry or places of its nodes to work it out; give the field"
-                           f" length")
+        made.faults.append(
+            f"{what}: no length, and no geometry or places of its nodes to work it out; give the field length"
+        )
         return None
     if length is not None and length < LEAST_M:
         made.count("are shorter than 1 m and get 1 m")

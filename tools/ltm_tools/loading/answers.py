@@ -32,7 +32,7 @@ class Totals(NamedTuple):
     waiting: int
 
 
-class Passed(NamedTuple):
+class LinkTotals(NamedTuple):
     """What has entered and left a link by the end of the horizon, in thousandths of a vehicle."""
 
     version: int
@@ -119,9 +119,9 @@ class AllDelays(NamedTuple):
 
 
 class Gap(NamedTuple):
-    """What those who travel spend and the least that they could at the link times of the loading, in thousandths of a
-    vehicle times ms; the first less the second, which may be below 0; and who could not arrive by the end by any route,
-    in thousandths of a vehicle."""
+    """The total travel time and an estimate of it on the fastest routes at the link times of the loading, in
+    thousandths of a vehicle times ms; the first less the second, which may be below 0; and the vehicles that no route
+    brings to their destination by the end, in thousandths."""
 
     version: int
     spent: int
@@ -144,21 +144,28 @@ def totals_of(words: Sequence[str]) -> Totals:
 
 def state_of(words: Sequence[str], names: Names) -> State:
     """The answer to `state`."""
-    entered, left, queue, waiting = (list(map(int, part)) for part in parts(words, 4, "in", "out", "queue", "waiting"))
-    return State(int(words[1]), int(words[3]), named(names.links, entered), named(names.links, left),
-                 named(names.links, queue),
-                 named(names.nodes, waiting))
+    entered, left, queue, waiting = (
+        list(map(int, part)) for part in answer_parts(words, 4, "in", "out", "queue", "waiting")
+    )
+    return State(
+        int(words[1]),
+        int(words[3]),
+        named(names.links, entered),
+        named(names.links, left),
+        named(names.links, queue),
+        named(names.nodes, waiting),
+    )
 
 
 def link_curve_of(words: Sequence[str]) -> LinkCurve:
     """The answer to `curve`."""
-    entered, left = (tuple(map(int, part)) for part in parts(words, 4, "in", "out"))
+    entered, left = (tuple(map(int, part)) for part in answer_parts(words, 4, "in", "out"))
     return LinkCurve(int(words[1]), entered, left)
 
 
 def origin_curve_of(words: Sequence[str]) -> OriginCurve:
     """The answer to `departures`."""
-    produced, left = (tuple(map(int, part)) for part in parts(words, 4, "produced", "left"))
+    produced, left = (tuple(map(int, part)) for part in answer_parts(words, 4, "produced", "left"))
     return OriginCurve(int(words[1]), produced, left)
 
 
@@ -166,9 +173,11 @@ def all_delays_of(words: Sequence[str], names: Names) -> AllDelays:
     """The answer to `delays`."""
     from .delay import Delay, Wait
 
-    links, nodes = parts(words, 8, "links", "nodes")
-    delays = [Delay(told_time(spent), told_time(queued), told_units(most), int(at))
-              for spent, queued, most, at in in_groups(links, 4)]
+    links, nodes = answer_parts(words, 8, "links", "nodes")
+    delays = [
+        Delay(told_time(spent), told_time(queued), told_units(most), int(at))
+        for spent, queued, most, at in in_groups(links, 4)
+    ]
     waits = [Wait(told_time(waited), told_units(most), int(at)) for waited, most, at in in_groups(nodes, 3)]
     spent, queued, waited = (told_time(words[place]) for place in (3, 5, 7))
     return AllDelays(int(words[1]), spent, queued, waited, named(names.links, delays), named(names.nodes, waits))
@@ -180,14 +189,14 @@ def gap_of(words: Sequence[str]) -> Gap:
     return Gap(int(words[1]), spent, least, -gap if words[7].startswith("-") else gap, told_units(words[9]))
 
 
-def two_of(answer: bytes, word: bytes) -> tuple[bytes, bytes]:
+def both_texts(answer: bytes, word: bytes) -> tuple[bytes, bytes]:
     """The texts of both rows of counts of an answer to `curve` or `departures`, the second behind a word, which the
     name in front may be too."""
     front, _, second = answer.rpartition(b" " + word + b" ")
     return b" ".join(front.split(b" ", 5)[5:]), second
 
 
-def parts(words: Sequence[str], place: int, *names: str) -> list[Sequence[str]]:
+def answer_parts(words: Sequence[str], place: int, *names: str) -> list[Sequence[str]]:
     """What stands behind each of these words, which follow one another from a place on; a Fault where they do not."""
     try:
         places = [place]
@@ -203,8 +212,10 @@ def parts(words: Sequence[str], place: int, *names: str) -> list[Sequence[str]]:
 def named(names: Sequence[str], values: Sequence[Value]) -> dict[str, Value]:
     """A value for each name; a Fault where they are not as many."""
     if len(names) != len(values):
-        raise Fault(f"the answer tells of {len(values)}, and the case has {len(names)}: its files are no longer those"
-                    f" the session began with")
+        raise Fault(
+            f"the answer tells of {len(values)}, and the case has {len(names)}: its files are no longer those"
+            f" the session began with"
+        )
     return dict(zip(names, values))
 
 

@@ -1,16 +1,11 @@
-"""Two cases side by side, or two versions of one."""
+"""Two loadings side by side."""
 from __future__ import annotations
 
-import os
-import tempfile
-from collections.abc import Mapping, Sequence
+from collections.abc import Mapping
 
-from ..case.edits import Edit
-from ..case.keeping import case_of
 from .approaches import Approaches, grouped
 from .remaining import Remaining
-from .sides import Side, side
-from .told import Program
+from .sides import Side
 
 Pairs = dict[str, tuple[int | None, int | None]]
 
@@ -49,9 +44,15 @@ class Comparison:
 
     def links(self, approaches: Approaches | None = None) -> Pairs:
         """The delay of each link, in units times ms; that of an approach as one."""
-        return paired(*({name: sum(links[one].queued for one in names)
-                         for name, names in grouped(links, approaches or {}).items()}
-                        for links in (of.report.links for of in self.both)))
+        return paired(
+            *(
+                {
+                    name: sum(links[one].queued for one in names)
+                    for name, names in grouped(links, approaches or {}).items()
+                }
+                for links in (of.report.links for of in self.both)
+            )
+        )
 
     def origins(self) -> Pairs:
         """What was waited at each origin, in units times ms."""
@@ -61,24 +62,9 @@ class Comparison:
         """What has arrived by each moment, in units."""
         end = max(of.case.setup.horizon_ms for of in self.both)
         one, other = self.both
-        return {moment: (one.arrived_by(moment), other.arrived_by(moment))
-                for moment in (*range(0, end, every_ms), end)}
-
-
-def of_versions(folder: str | os.PathLike[str], made: Sequence[Sequence[Edit]], versions: tuple[int, int | None],
-                program: Program, gap: bool = False) -> Comparison:
-    """Two versions of a case side by side: each after the first so many of these accepted batches, or after all where
-    it is None."""
-    one, other = (of_version(folder, made, version, program, gap) for version in versions)
-    return Comparison(one, other)
-
-
-def of_version(folder: str | os.PathLike[str], made: Sequence[Sequence[Edit]], version: int | None, program: Program,
-               gap: bool) -> Side:
-    """The side of a version."""
-    with tempfile.TemporaryDirectory() as kept:
-        case_of(folder, made, version).write(kept)
-        return side(kept, None, program, gap)
+        return {
+            moment: (one.arrived_by(moment), other.arrived_by(moment)) for moment in (*range(0, end, every_ms), end)
+        }
 
 
 def paired(one: Mapping[str, int], other: Mapping[str, int]) -> Pairs:

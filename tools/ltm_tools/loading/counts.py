@@ -21,34 +21,39 @@ def zeros(boundaries: int) -> Counts:
 
 def less(one: Counts, other: Counts) -> Counts:
     """One curve less another, boundary by boundary."""
-    return one - other if is_array(one) else [a - b for a, b in zip(one, other)]
+    return one - other if is_numpy(one) else [a - b for a, b in zip(one, other)]
 
 
 def total(curves: Sequence[Counts]) -> Counts:
     """The sum of curves, boundary by boundary."""
     if len(curves) == 1:
         return curves[0]
-    return sum(curves) if is_array(curves[0]) else [sum(counts) for counts in zip(*curves)]
+    return sum(curves) if is_numpy(curves[0]) else [sum(counts) for counts in zip(*curves)]
 
 
 def greatest(counts: Counts) -> int:
     """The greatest count."""
-    return int(counts.max() if is_array(counts) else max(counts))
+    return int(counts.max() if is_numpy(counts) else max(counts))
 
 
-def is_array(counts: Counts) -> bool:
+def is_numpy(counts: Counts) -> bool:
     """Whether these counts are a numpy array, and not a list."""
     return numpy is not None and isinstance(counts, numpy.ndarray)
 
 
-def vehicles(counts: Counts) -> Counts:
+def float_vehicles(counts: Counts) -> Counts:
     """Counts in vehicles, for a picture: floating point, never for a result."""
-    return counts / 1000 if is_array(counts) else [count / 1000 for count in counts]
+    return counts / 1000 if is_numpy(counts) else [count / 1000 for count in counts]
 
 
 def as_list(counts: Counts) -> list[int]:
     """Counts as a list of int."""
     return counts if isinstance(counts, list) else list(counts.tolist())
+
+
+def as_counts(units: list[int]) -> Counts:
+    """A list of int as counts."""
+    return units if numpy is None else numpy.array(units, dtype=numpy.int64)
 
 
 def counts_of(text: bytes) -> Counts | None:

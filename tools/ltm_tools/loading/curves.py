@@ -17,6 +17,7 @@ from ..case.reading import read_setup
 from ..errors import Fault
 from ..files import bytes_text, records
 from ..formats import CURVES, MOST_COUNT
+from ..libraries import pandas_or_fault
 from ..listing import json_cell, seconds, vehicles
 from . import delay
 from .counts import Counts, counts_of, greatest, less, total, zeros
@@ -123,24 +124,26 @@ class Curves:
         report = delay.report(self, case)
         for link in case.links:
             up, down, late = self.up(link.name), self.down(link.name), report.links[link.name]
-            told[link.name] = {"entered": number(int(up[-1])), "left": number(int(down[-1])),
-                               "storage": number(link.storage_units),
-                               "most_queue": number(late.most), "most_queue_ms": late.at * self.step_ms,
-                               "spent": float(json_cell(seconds(late.spent))),
-                               "queued": float(json_cell(seconds(late.queued)))}
+            told[link.name] = {
+                "entered": vehicles_number(int(up[-1])),
+                "left": vehicles_number(int(down[-1])),
+                "storage": vehicles_number(link.storage_units),
+                "most_queue": vehicles_number(late.most),
+                "most_queue_ms": late.at * self.step_ms,
+                "spent": float(json_cell(seconds(late.spent))),
+                "queued": float(json_cell(seconds(late.queued))),
+            }
             if boundary is not None:
-                told[link.name].update(on_link=number(int(up[boundary] - down[boundary])),
-                                       queue=number(int(delay.queue(self, link)[boundary])))
+                told[link.name].update(
+                    on_link=vehicles_number(int(up[boundary] - down[boundary])),
+                    queue=vehicles_number(int(delay.queue(self, link)[boundary])),
+                )
         return told
 
     def to_pandas(self, kinds: Sequence[str] = KINDS, by_destination: bool = False) -> "pandas.DataFrame":
         """A table of the counts, in thousandths of a vehicle: a row for each boundary, its index the milliseconds since
         the start; a column for each kind and name, and for each destination where that is asked for."""
-        try:
-            import pandas
-        except ImportError:
-            raise Fault("this needs pandas for Python: apt-get install python3-pandas, which /usr/bin/python3 has"
-                        " then") from None
+        pandas = pandas_or_fault()
         columns: dict[tuple[str, ...], Counts] = {}
         for (kind, name), texts in self._texts.items():
             if kind not in kinds:
@@ -149,8 +152,9 @@ class Curves:
                 columns.update({(kind, name, end): self.counts(kind, name, end) for end in texts})
             else:
                 columns[kind, name] = self.counts(kind, name)
-        frame = pandas.DataFrame(columns, index=pandas.RangeIndex(0, self.boundaries * self.step_ms, self.step_ms,
-                                                                  name="ms"))
+        frame = pandas.DataFrame(
+            columns, index=pandas.RangeIndex(0, self.boundaries * self.step_ms, self.step_ms, name="ms")
+        )
         if columns:
             frame.columns.names = ["kind", "name", "destination"][: 2 + by_destination]
         return frame
@@ -176,7 +180,7 @@ class Summed(Curves):
         return self._sums[kind, name]
 
 
-def number(units: int) -> float:
+def vehicles_number(units: int) -> float:
     """Vehicles, as a number of JSON."""
     return float(json_cell(vehicles(units)))
 
@@ -208,8 +212,10 @@ def _texts_of(rows: Iterator[list[bytes]], place: str, boundaries: int) -> dict[
             raise Fault(f"{place} row {number}: it is no record of a curve file")
         kind, name, destination = map(bytes_text, row[:3])
         if row[3].count(b" ") + 1 != boundaries:
-            raise Fault(f"{place} row {number}: it has {row[3].count(b' ') + 1} counts, and the case has {boundaries}"
-                        f" boundaries")
+            raise Fault(
+                f"{place} row {number}: it has {row[3].count(b' ') + 1} counts, and the case has {boundaries}"
+                f" boundaries"
+            )
         group = texts.setdefault((kind, name), {})
         if destination in group:
             raise Fault(f"{place} row {number}: `{kind}` of {name} for {destination} stands there twice")

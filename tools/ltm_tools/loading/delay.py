@@ -1,15 +1,20 @@
-"""Queues and delay of a loading, worked out from its curves in whole numbers. Every command takes them from here.
+"""Queues and delay of a loading, worked out from its curves in whole numbers.
+
+The tables of every command take them from here, also that of a map page. The curves of a map page are drawn in the
+browser, by the same definitions (`show/web/numbers.js`); the live map has its numbers from the answers of a session.
 
 Counts are thousandths of a vehicle (units), totals over destinations; `h` is the step in ms; boundaries k run from 0 to
 T.
 
-    ready of a link at k     how many may have left it by then in free flow: what had entered it by the moment k*h -
-                             free-flow time, interpolated between boundaries and rounded down; 0 where that moment is
-                             not above 0
-    queue of a link at k     ready less what has left it: those who could have left and have not (Newell's vertical
-    queue) waiting of a node at k   what its demand has produced less what has left its origin spent
-    vehicle time on a link: the sum over k = 1..T of what is on it at k, times h queued, waited           the sums over
-    k = 1..T of the queue, of those waiting, times h; together they are the delay
+    ready of a link at k     how many vehicles may have left it by then in free flow: what had entered it by the moment
+                             k*h less its free-flow time, interpolated between boundaries and rounded down; 0 where
+                             that moment is not above 0
+    queue of a link at k     ready less what has left it: vehicles that could have left and have not (Newell's vertical
+                             queue)
+    waiting at a node at k   what its demand has produced less what has left its origin
+    spent on a link          the vehicle time on it: the sum over k = 1..T of what is on it at k, times h
+    queued, waited           the sums over k = 1..T of the queue, and of those waiting, times h; together they are the
+                             delay
 
 Times are units times milliseconds: whole numbers of millionths of a vehicle second.
 """
@@ -23,7 +28,7 @@ from typing import Protocol
 from ..case import Case, Demand, Link
 from ..errors import Fault
 from ..formats import MOST_SLOT_UNITS, NAME, told_time, told_units, vehicles_text
-from .counts import Counts, is_array, less, zeros
+from .counts import Counts, is_numpy, less, zeros
 
 try:
     import numpy
@@ -99,11 +104,15 @@ class Report:
 
     def lines(self) -> Iterator[str]:
         """The report, a line each, with times in vehicle seconds and amounts in vehicles."""
-        yield (f"version 0 spent {seconds_text(self.spent)} queued {seconds_text(self.queued)} waited"
-               f" {seconds_text(self.waited)}")
+        yield (
+            f"version 0 spent {seconds_text(self.spent)} queued {seconds_text(self.queued)} waited"
+            f" {seconds_text(self.waited)}"
+        )
         for name, link in self.links.items():
-            yield (f"link {name} spent {seconds_text(link.spent)} queued {seconds_text(link.queued)} most"
-                   f" {vehicles_text(link.most)} at {link.at}")
+            yield (
+                f"link {name} spent {seconds_text(link.spent)} queued {seconds_text(link.queued)} most"
+                f" {vehicles_text(link.most)} at {link.at}"
+            )
         for name, node in self.origins.items():
             yield f"node {name} waited {seconds_text(node.waited)} most {vehicles_text(node.most)} at {node.at}"
 
@@ -141,7 +150,7 @@ def ready(up: Counts, step_ms: int, free_ms: int) -> Counts:
     later, part = divmod(-free_ms, step_ms)  # k*h - free is (k + later)*h + part, and `later` is below 0
     count = max(0, len(up) + later)
     before, after = up[:count], up[1 : count + 1]
-    if is_array(up):
+    if is_numpy(up):
         counts = zeros(len(up))
         counts[len(up) - count :] = before + (after - before) * part // step_ms
         return counts
@@ -150,15 +159,15 @@ def ready(up: Counts, step_ms: int, free_ms: int) -> Counts:
 
 def queue(curves: HasCounts, link: Link) -> Counts:
     """The queue of a link at each boundary."""
-    up, down = checked(curves, link)
+    up, down = checked_curves(curves, link)
     return less(ready(up, curves.step_ms, link.free_ms), down)
 
 
-def checked(curves: HasCounts, link: Link) -> tuple[Counts, Counts]:
+def checked_curves(curves: HasCounts, link: Link) -> tuple[Counts, Counts]:
     """What has entered a link and what has left it; a Fault where that cannot be of a loading."""
     up, down = curves.up(link.name), curves.down(link.name)
-    check(up, f"what has entered {link.name}")
-    check(down, f"what has left {link.name}")
+    check_curve(up, f"what has entered {link.name}")
+    check_curve(down, f"what has left {link.name}")
     return up, down
 
 
@@ -167,7 +176,7 @@ def produced(rows: list[Demand], boundaries: int) -> Counts:
     counts = zeros(boundaries)
     for row in rows:
         span = row.to_slot - row.from_slot
-        if is_array(counts):
+        if is_numpy(counts):
             counts[row.from_slot : row.to_slot] += row.units * numpy.arange(span, dtype=numpy.int64) // span
             counts[row.to_slot :] += row.units
         else:
@@ -178,7 +187,7 @@ def produced(rows: list[Demand], boundaries: int) -> Counts:
     return counts
 
 
-def demand_of(case: Case) -> dict[str, list[Demand]]:
+def demand_by_origin(case: Case) -> dict[str, list[Demand]]:
     """The demand that stands, by origin, in the order of node numbers."""
     rows: dict[str, list[Demand]] = {}
     for row in case.standing_demand():
@@ -188,41 +197,44 @@ def demand_of(case: Case) -> dict[str, list[Demand]]:
 
 def waiting(curves: HasCounts, case: Case, node: str) -> Counts:
     """How many wait at a node at each boundary; none at a node that is no origin."""
-    return less(produced(demand_of(case).get(node, []), curves.boundaries), curves.departed(node))
+    return less(produced(demand_by_origin(case).get(node, []), curves.boundaries), curves.departed(node))
 
 
 def report(curves: HasCounts, case: Case) -> Report:
     """The delay of a loading of the case."""
     found, step = Report(), curves.step_ms
     for link in case.links:
-        up, down = checked(curves, link)
+        up, down = checked_curves(curves, link)
         standing, queued = less(up, down), less(ready(up, step, link.free_ms), down)
-        found.links[link.name] = Delay(whole(standing) * step, whole(queued) * step, *most(queued))
-    for node, rows in demand_of(case).items():
+        found.links[link.name] = Delay(sum_of_counts(standing) * step, sum_of_counts(queued) * step, *most(queued))
+    for node, rows in demand_by_origin(case).items():
         waits = less(produced(rows, curves.boundaries), curves.departed(node))
-        found.origins[node] = Wait(whole(waits) * step, *most(waits))
+        found.origins[node] = Wait(sum_of_counts(waits) * step, *most(waits))
     return found
 
 
-def check(counts: Counts, what: str) -> None:
+def check_curve(counts: Counts, what: str) -> None:
     """A Fault where a curve of a link cannot be that of a loading: it begins with 0, never falls, and at most 32
     vehicles pass in a slot."""
-    if is_array(counts):
+    if is_numpy(counts):
         steps = numpy.diff(counts)
-        fits = counts[0] == 0 and not len(steps) or bool(counts[0] == 0 and steps.min() >= 0
-                                                         and steps.max() <= MOST_SLOT_UNITS)
+        fits = (
+            counts[0] == 0
+            and not len(steps)
+            or bool(counts[0] == 0 and steps.min() >= 0 and steps.max() <= MOST_SLOT_UNITS)
+        )
     else:
         fits = counts[0] == 0 and all(0 <= b - a <= MOST_SLOT_UNITS for a, b in zip(counts, counts[1:]))
     if not fits:
         raise Fault(f"{what} is no curve of a loading: `ltm check` says where the curve file is wrong")
 
 
-def whole(counts: Counts) -> int:
+def sum_of_counts(counts: Counts) -> int:
     """The sum of counts."""
-    return int(counts.sum()) if is_array(counts) else sum(counts)
+    return int(counts.sum()) if is_numpy(counts) else sum(counts)
 
 
 def most(counts: Counts) -> tuple[int, int]:
     """The greatest count, and the first boundary that has it."""
-    at = int(counts.argmax()) if is_array(counts) else counts.index(max(counts))
+    at = int(counts.argmax()) if is_numpy(counts) else counts.index(max(counts))
     return int(counts[at]), at

@@ -10,10 +10,10 @@ from ..errors import Fault
 from ..formats import clock_text
 from . import delay
 from .curves import Curves
-from .told import ToldCurves, told
+from .told import ToldCurves, loading_told
 
 
-class Loaded(NamedTuple):
+class LoadedCase(NamedTuple):
     """A case, and its loading."""
 
     case: Case
@@ -25,12 +25,13 @@ class Loaded(NamedTuple):
         boundary = (moment - start) // self.curves.step_ms
         if not 0 <= boundary < self.curves.boundaries:
             end = start + (self.curves.boundaries - 1) * self.curves.step_ms
-            raise Fault(f"{clock_text(moment)} is not within the horizon, from {clock_text(start)} to"
-                        f" {clock_text(end)}")
+            raise Fault(
+                f"{clock_text(moment)} is not within the horizon, from {clock_text(start)} to {clock_text(end)}"
+            )
         return boundary
 
 
-def loaded(folder: str, curves: str | None, named: str | None) -> Loaded:
+def loaded(folder: str, curves: str | None, named: str | None) -> LoadedCase:
     """The case of a folder, and its curves: of this file, else made by the program, else of `curves.csv` in the folder
     where the program is nowhere found."""
     case = Case.read(folder)
@@ -47,15 +48,16 @@ def loaded(folder: str, curves: str | None, named: str | None) -> Loaded:
             found = Curves.read(kept, step, boundaries)
         else:
             return made_by_program(case, folder, named)
-    return Loaded(case, of_case(case, found))
+    return LoadedCase(case, of_case(case, found))
 
 
-def made_by_program(case: Case, folder: str, named: str | None) -> Loaded:
+def made_by_program(case: Case, folder: str, named: str | None) -> LoadedCase:
     """The case with the curves of its loading: as a session tells them, else as `ltm curves` writes them."""
+
     def make() -> Curves:
         return of_case(case, made(folder, named, case.setup.step_ms, case.setup.slots + 1))
 
-    return Loaded(case, told(case, folder, named, make) or make())
+    return LoadedCase(case, loading_told(case, folder, named, make) or make())
 
 
 def made(folder: str, named: str | None, step: int, boundaries: int) -> Curves:
@@ -70,7 +72,7 @@ def made(folder: str, named: str | None, step: int, boundaries: int) -> Curves:
     return Curves.of_lines(lines, f"{folder}: ltm curves", step, boundaries)
 
 
-def told_delay(loading: Loaded, folder: str, curves: str | None, named: str | None) -> delay.Report:
+def told_delay(loading: LoadedCase, folder: str, curves: str | None, named: str | None) -> delay.Report:
     """The delay of what `loaded` gave for a folder: as the program tells it where it made the loading and has a command
     for it, and else worked out from the curves."""
     if isinstance(loading.curves, ToldCurves):
@@ -88,9 +90,11 @@ def program_delay(folder: str, named: str | None) -> delay.Report:
 def of_case(case: Case, curves: Curves) -> Curves:
     """The curves, where they have exactly the links, nodes and destinations of the case."""
     if case.destinations:
-        for kind, wanted, found in (("link", [link.name for link in case.links], curves.links),
-                                    ("node", case.nodes, curves.nodes),
-                                    ("destination", case.destinations, curves.destinations)):
+        for kind, wanted, found in (
+            ("link", [link.name for link in case.links], curves.links),
+            ("node", case.nodes, curves.nodes),
+            ("destination", case.destinations, curves.destinations),
+        ):
             if wanted != found:
                 odd = next((name for name in (*wanted, *found) if (name in wanted) != (name in found)), None)
                 told = f"{kind}s in another order" if odd is None else f"the {kind} {odd} in one and not in the other"

@@ -7,7 +7,7 @@ from typing import NamedTuple
 from ..case import Case
 from . import delay
 from .approaches import Approaches, grouped
-from .counts import Counts, is_array, less, total
+from .counts import Counts, is_numpy, less, total
 from .curves import Curves
 
 try:
@@ -42,23 +42,32 @@ def queues(curves: Curves, case: Case, least: int = LEAST_UNITS, approaches: App
     for name, names in grouped(links, approaches or {}).items():
         counts = total([delay.queue(curves, links[one]) for one in names])
         found += _queues("link", name, counts, least, sum(links[one].storage_units for one in names), curves.step_ms)
-    for node, rows in delay.demand_of(case).items():
+    for node, rows in delay.demand_by_origin(case).items():
         counts = less(delay.produced(rows, curves.boundaries), curves.departed(node))
         found += _queues("origin", node, counts, least, None, curves.step_ms)
     return found
 
 
 def _queues(kind: str, name: str, counts: Counts, least: int, storage: int | None, step_ms: int) -> Iterator[Queue]:
-    for first, last in spans(counts, least):
+    for first, last in queue_spans(counts, least):
         part = counts[first : last + 1]
         worst, at = delay.most(part)
-        yield Queue(kind, name, first, last, last == len(counts) - 1, worst, first + at, storage,
-                    delay.whole(part) * step_ms)
+        yield Queue(
+            kind,
+            name,
+            first,
+            last,
+            last == len(counts) - 1,
+            worst,
+            first + at,
+            storage,
+            delay.sum_of_counts(part) * step_ms,
+        )
 
 
-def spans(counts: Counts, least: int) -> Iterator[tuple[int, int]]:
+def queue_spans(counts: Counts, least: int) -> Iterator[tuple[int, int]]:
     """The first and last boundary of each longest row of counts of at least so much."""
-    if is_array(counts):
+    if is_numpy(counts):
         edges = numpy.flatnonzero(numpy.diff(numpy.concatenate(([0], (counts >= least).astype(numpy.int8), [0]))))
         yield from ((int(first), int(end) - 1) for first, end in zip(edges[::2], edges[1::2]))
         return

@@ -1,4 +1,5 @@
-"""Who is not there by the end of the horizon, and whether the vehicle hours of two loadings can be compared.
+"""Vehicles that have not arrived by the end of the horizon, and whether the vehicle hours of two loadings can be
+compared.
 
 Hours count up to the end of the horizon. So where many more are still on their way in one loading than in another, its
 hours lack what those have before them.
@@ -28,6 +29,7 @@ class Remaining(NamedTuple):
 
 def told_apart(one: Remaining, other: Remaining) -> str:
     """A line on two loadings whose hours cannot be compared."""
-    return (f"hours are not to be compared: {vehicles_text(one.not_there)} and {vehicles_text(other.not_there)}"
-            f" vehicles are not there by the"
-            f" end, which differ by over {TOLD_APART} of the vehicles; a longer horizon lets them arrive")
+    return (
+        f"hours cannot be compared: {vehicles_text(one.not_there)} and {vehicles_text(other.not_there)} vehicles have"
+        f" not arrived by the end, which differ by over {TOLD_APART} of the vehicles; take a longer horizon"
+    )

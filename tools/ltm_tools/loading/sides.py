@@ -9,7 +9,7 @@ from ..case import Case
 from .answers import Gap
 from .counts import Counts, as_list
 from .delay import Report, report
-from .loaded import Loaded, loaded, told_delay
+from .loaded import LoadedCase, loaded, told_delay
 from .times import at
 from .told import Program, ToldCurves, told_gap
 
@@ -40,14 +40,14 @@ def side(folder: str, curves: str | None, program: Program, gap: bool = False) -
     return found._replace(gap=told_gap(folder, named)) if gap else found
 
 
-def of_curves(loading: Loaded, told: Report | None = None) -> Side:
+def of_curves(loading: LoadedCase, told: Report | None = None) -> Side:
     """The side of a loading, with the delay worked out where it is not told."""
     case, curves = loading
     arrived = as_list(curves.all_arrived())
-    return Side(case, told or report(curves, case), ends_of(loading, arrived[-1]), arrived)
+    return Side(case, told or report(curves, case), totals_at_end(loading, arrived[-1]), arrived)
 
 
-def ends_of(loading: Loaded, arrived: int) -> dict[str, int]:
+def totals_at_end(loading: LoadedCase, arrived: int) -> dict[str, int]:
     """The totals at the end of the horizon by name."""
     case, curves = loading
     if isinstance(curves, ToldCurves):
@@ -56,8 +56,13 @@ def ends_of(loading: Loaded, arrived: int) -> dict[str, int]:
         generated = sum(row.units for row in case.standing_demand())
         on_links = sum(last(curves.up(link.name)) - last(curves.down(link.name)) for link in case.links)
         waiting = generated - sum(last(curves.departed(node)) for node in case.nodes)
-    return {"generated": generated, "arrived": arrived, "on_links": on_links, "waiting": waiting,
-            "not_there": generated - arrived}
+    return {
+        "generated": generated,
+        "arrived": arrived,
+        "on_links": on_links,
+        "waiting": waiting,
+        "not_there": generated - arrived,
+    }
 
 
 def last(counts: Counts) -> int:

@@ -2,7 +2,7 @@
 from __future__ import annotations
 
 from bisect import bisect_left
-from collections.abc import Iterator, Sequence
+from collections.abc import Iterable, Iterator, Sequence
 from typing import NamedTuple
 
 from ..case import Case, Link
@@ -11,7 +11,8 @@ from . import delay
 from .counts import as_list
 from .curves import Curves
 
-class Trip(NamedTuple):
+
+class TripTimes(NamedTuple):
     """A departure, in ms since the start of slot 0; the wait at the origin and the time on each link in ms, up to the
     first that is not left by the end of the horizon, which is None."""
 
@@ -45,11 +46,11 @@ class Path:
     """A path of links with the curves along it, and what its first node's demand has produced."""
 
     def __init__(self, curves: Curves, case: Case, names: Sequence[str], wait: bool = True) -> None:
-        self.links = joined(case, names)
+        self.links = path_links(case.links, names)
         self.step_ms, self.end = curves.step_ms, curves.step_ms * (curves.boundaries - 1)
-        self.curves = [tuple(map(as_list, delay.checked(curves, link))) for link in self.links]
+        self.curves = [tuple(map(as_list, delay.checked_curves(curves, link))) for link in self.links]
         node = self.links[0].tail
-        rows = delay.demand_of(case).get(node, []) if wait else []
+        rows = delay.demand_by_origin(case).get(node, []) if wait else []
         self.produced = as_list(delay.produced(rows, curves.boundaries))
         self.departed = as_list(curves.departed(node)) if wait else self.produced
 
@@ -58,11 +59,11 @@ class Path:
         """The time of the path on empty roads."""
         return sum(link.free_ms for link in self.links)
 
-    def trip(self, departs: int) -> Trip:
+    def trip(self, departs: int) -> TripTimes:
         """The trip of whoever departs at a moment, in ms."""
         leaves = first_moment(self.departed, self.step_ms, at(self.produced, self.step_ms, departs))
         if leaves is None:
-            return Trip(departs, [None])
+            return TripTimes(departs, [None])
         parts: list[int | None] = [max(0, leaves - departs)]
         moment = departs + max(0, leaves - departs)
         for link, (up, down) in zip(self.links, self.curves):
@@ -71,7 +72,7 @@ class Path:
             if took is None:
                 break
             moment += took
-        return Trip(departs, parts)
+        return TripTimes(departs, parts)
 
     def passing(self, link: Link, up: Sequence[int], down: Sequence[int], moment: int) -> int | None:
         """How long a link takes whoever enters it at a moment."""
@@ -80,14 +81,14 @@ class Path:
         leaves = first_moment(down, self.step_ms, at(up, self.step_ms, moment))
         return None if leaves is None else max(link.free_ms, leaves - moment)
 
-    def trips(self, every_ms: int) -> Iterator[Trip]:
+    def trips(self, every_ms: int) -> Iterator[TripTimes]:
         """The trips of departures at every so many ms, from the first slot's beginning on, and before the end."""
         return (self.trip(moment) for moment in range(0, self.end, every_ms))
 
 
-def joined(case: Case, names: Sequence[str]) -> list[Link]:
-    """The links of a path, each of which begins where the one before ended."""
-    by_name = {link.name: link for link in case.links}
+def path_links(links: Iterable[Link], names: Sequence[str]) -> list[Link]:
+    """Of links those of a path by name; a Fault where one does not begin where the one before it ends."""
+    by_name = {link.name: link for link in links}
     for name in names:
         if name not in by_name:
             raise Fault(f"the case has no link {name}")

@@ -11,10 +11,10 @@ from typing import TYPE_CHECKING
 from ..case import Case
 from ..errors import Fault
 from ..program import output
-from .answers import Gap, Names, Totals, all_delays_of, gap_of, totals_of, two_of
+from .answers import Gap, Names, Totals, all_delays_of, gap_of, totals_of, both_texts
 from .counts import Counts, less, zeros
 from .curves import KINDS, Curves
-from .delay import Report, demand_of
+from .delay import Report, demand_by_origin
 
 if TYPE_CHECKING:
     import pandas
@@ -68,11 +68,15 @@ class ToldCurves(Curves):
         return self.whole.to_pandas(kinds, by_destination)
 
 
-def told(case: Case, folder: str, program: Program, make: Callable[[], Curves]) -> ToldCurves | None:
+def loading_told(case: Case, folder: str, program: Program, make: Callable[[], Curves]) -> ToldCurves | None:
     """What a session tells of the loading of a case; None where the sessions of the program do not tell all of it."""
-    links, origins = [link.name for link in case.links], list(demand_of(case))
-    questions = [{"do": "totals"}, {"do": "delays"}, *({"do": "curve", "link": name} for name in links),
-                 *({"do": "departures", "node": name} for name in origins)]
+    links, origins = [link.name for link in case.links], list(demand_by_origin(case))
+    questions = [
+        {"do": "totals"},
+        {"do": "delays"},
+        *({"do": "curve", "link": name} for name in links),
+        *({"do": "departures", "node": name} for name in origins),
+    ]
     script = b"".join(json.dumps(question).encode() + b"\n" for question in questions)
     lines = output(folder, "session", "0", program=program, script=script).splitlines()
     if len(lines) != len(questions) or any(line.startswith(b"refused ") for line in lines):
@@ -82,14 +86,14 @@ def told(case: Case, folder: str, program: Program, make: Callable[[], Curves]) 
     report = Report(dict(all_delays.links), {name: all_delays.nodes[name] for name in origins})
     sums: dict[tuple[str, str], bytes] = {}
     for name, line in zip(links, lines[2:]):
-        sums["up", name], sums["down", name] = two_of(line, b"out")
-    for name, line in zip(origins, lines[2 + len(links):]):
-        _, sums["dep", name] = two_of(line, b"left")
+        sums["up", name], sums["down", name] = both_texts(line, b"out")
+    for name, line in zip(origins, lines[2 + len(links) :]):
+        _, sums["dep", name] = both_texts(line, b"left")
     return ToldCurves(case, totals_of(totals), report, sums, make)
 
 
 def told_gap(folder: str, program: Program) -> Gap:
-    """What all spend in the loading of a case against the least at its link times, as `ltm gap` tells it."""
+    """The total travel time of a case beside the estimate of it on the fastest routes, as `ltm gap` writes them."""
     return gap_of(output(folder, "gap", program=program).decode().split())
 
 

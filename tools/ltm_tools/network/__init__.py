@@ -1,2 +1,1 @@
-"""What importers share: a raw network, its fit to a step, its turns, profiles and names, and the case that is made of
-it."""
+"""What importers share: a raw network, its fit to a step, its crossings and names, and the case that is made of it."""

@@ -8,7 +8,7 @@ from fractions import Fraction
 from ..formats import MOST_IN, MOST_KMH, MOST_OUT
 from .fitting import Fitting, stretched
 from .lines import Line, Point, cut_at
-from .network import Node, Road, most_capacity, nearest
+from .network import Node, Road, most_capacity, nearest_whole
 
 ARMS = min(MOST_IN, MOST_OUT)
 """The most roads that may lead into a node, and out of it."""
@@ -28,14 +28,16 @@ def gather(fit: Fitting, node: str, word: str, number: int) -> None:
     """Gives at most four roads on one side of a node a connector in common."""
     network, side = fit.network, fit.network.ins if word == "in" else fit.network.outs
     count = min(ARMS, len(side[node]) - ARMS + 1)
-    chosen = sorted((network.roads[name] for name in side[node]),
-                    key=lambda road: (road.time < 3 * fit.step, road.capacity, road.name))[:count]
+    chosen = sorted(
+        (network.roads[name] for name in side[node]),
+        key=lambda road: (road.time < 3 * fit.step, road.capacity, road.name),
+    )[:count]
     made = connector(fit, node, word, number, chosen)
     inner = made.tail if word == "in" else made.head
     shapes = [cut_shape(fit, road, word, made) for road in chosen]
-    network.add_node(Node(inner, *middle(fit, node,
-                                              [shape[-1] if word == "in" else shape[0] for shape in shapes
-                                               if shape])))
+    network.add_node(
+        Node(inner, *middle(fit, node, [shape[-1] if word == "in" else shape[0] for shape in shapes if shape]))
+    )
     after = []
     for road, shape in zip(chosen, shapes):
         cut = stretched(road, -made.time) if road.time > 2 * made.time else road
@@ -44,8 +46,9 @@ def gather(fit: Fitting, node: str, word: str, number: int) -> None:
         (network.move_head if word == "in" else network.move_tail)(road.name, inner)
     network.add(made)
     kept = sum(new.time == old.time for old, new in zip(chosen, after))
-    note = (f"{' '.join(road.name for road in chosen)} by {made.name}"
-            + (f"; {kept} of them become longer by it" if kept else ""))
+    note = f"{' '.join(road.name for road in chosen)} by {made.name}" + (
+        f"; {kept} of them become longer by it" if kept else ""
+    )
     fit.tell("node split", node, chosen, [*after, made], note)
 
 
@@ -70,8 +73,8 @@ def connector(fit: Fitting, node: str, word: str, number: int, chosen: list[Road
     """The connector between a node and some of its roads, as long as the step asks for."""
     inner = free_name(f"{node}_{word}{number}", fit.network.nodes)
     name = free_name(f"{node}_{word}{number}", fit.network.roads)
-    kmh = Fraction(nearest(min(road.kmh for road in chosen)))
-    jam = Fraction(nearest(sum((road.jam for road in chosen), Fraction(0))))
+    kmh = Fraction(nearest_whole(min(road.kmh for road in chosen)))
+    jam = Fraction(nearest_whole(sum((road.jam for road in chosen), Fraction(0))))
     most = min(most_capacity(fit.step), kmh * jam / 2)
     capacity = min(sum((road.capacity for road in chosen), Fraction(0)), most)
     ends = (inner, node) if word == "in" else (node, inner)

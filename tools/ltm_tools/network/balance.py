@@ -13,8 +13,8 @@ from collections.abc import Iterable, Sequence
 from dataclasses import dataclass
 from fractions import Fraction
 
-from .fit import Fit, metres_text
-from .fitting import Change, stretched
+from .fit import FittedNetwork, metres_text
+from .fitting import FitChange, stretched
 
 MOST_ROUTES = 5000
 ROUNDS = 40
@@ -37,12 +37,15 @@ class Used:
         return sum(self.times, Fraction(0))
 
 
-def balance(fit: Fit, routes: Iterable[Used]) -> None:
+def balance(fit: FittedNetwork, routes: Iterable[Used]) -> None:
     """Changes the roads of a fitted network for its most used routes, and notes each change."""
-    chosen = sorted((route for route in routes if route.roads and any(route.times) and route.units),
-                    key=lambda route: (-route.units, route.roads))[:MOST_ROUTES]
-    off = [float(sum((fit.network.roads[name].time for name in route.roads), Fraction(0)) - route.time)
-           for route in chosen]
+    chosen = sorted(
+        (route for route in routes if route.roads and any(route.times) and route.units),
+        key=lambda route: (-route.units, route.roads),
+    )[:MOST_ROUTES]
+    off = [
+        float(sum((fit.network.roads[name].time for name in route.roads), Fraction(0)) - route.time) for route in chosen
+    ]
     if not any(abs(error) > 1 for error in off):
         return
     for name, change in search(fit, chosen, off).items():
@@ -50,18 +53,25 @@ def balance(fit: Fit, routes: Iterable[Used]) -> None:
         made = stretched(road, Fraction(round(change)))
         if made.time > 0 and not fit.short(made):
             fit.put(made)
-            fit.changes.append(Change("evened out", name, made.length - road.length, made.time - road.time,
-                                      f"from {metres_text(road.length)} to {metres_text(made.length)} m"))
+            fit.changes.append(
+                FitChange(
+                    "evened out",
+                    name,
+                    made.length - road.length,
+                    made.time - road.time,
+                    f"from {metres_text(road.length)} to {metres_text(made.length)} m",
+                )
+            )
 
 
-def bounds(fit: Fit, name: str) -> tuple[float, float]:
+def bounds(fit: FittedNetwork, name: str) -> tuple[float, float]:
     """The least and the most change of a road's time in ms."""
     road = fit.network.roads[name]
     room = float(road.time + fit.missing(road)) - float(road.time)
     return max(-MOST_SHARE * float(road.time), min(0.0, room)), MOST_SHARE * float(road.time)
 
 
-def search(fit: Fit, routes: Sequence[Used], off: list[float]) -> dict[str, float]:
+def search(fit: FittedNetwork, routes: Sequence[Used], off: list[float]) -> dict[str, float]:
     """The change of each road's time in ms, a road at a time while all others stay."""
     users: dict[str, list[int]] = {}
     for number, route in enumerate(routes):
@@ -71,8 +81,10 @@ def search(fit: Fit, routes: Sequence[Used], off: list[float]) -> dict[str, floa
     weights = [route.units / whole / float(route.time) ** 2 for route in routes]
     times = {name: float(fit.network.roads[name].time) for name in users}
     limits = {name: bounds(fit, name) for name in users}
-    holds = {name: HOLD * sum(weights[number] * float(routes[number].time) ** 2 for number in numbers)
-             / times[name] ** 2 for name, numbers in users.items()}
+    holds = {
+        name: HOLD * sum(weights[number] * float(routes[number].time) ** 2 for number in numbers) / times[name] ** 2
+        for name, numbers in users.items()
+    }
     changes = dict.fromkeys(users, 0.0)
     for _ in range(ROUNDS):
         most = 0.0

@@ -6,15 +6,18 @@ from fractions import Fraction
 
 from .fit import metres_text
 from .importing import Carried
-from .network import totals
+from .network import road_totals
 from .steps import longest_step, signed
 
 
 def changes_told(made: Carried, routes: Iterable[tuple[tuple[str, ...], int]], added: Container[str] = ()) -> list[str]:
     """What was changed: the step and the network, the most used routes with it, and names. `added` are roads that the
     source does not have."""
-    told = ([*changes_table(made, added), *routes_table(made, routes)] if made.fit is not None
-            else [f"the longest step that changes nothing is {longest_step(made.raw)} ms"])
+    told = (
+        [*changes_table(made, added), *routes_table(made, routes)]
+        if made.fit is not None
+        else [f"the longest step that changes nothing is {longest_step(made.raw)} ms"]
+    )
     renamed = sum(name != source for names in (made.link_names, made.node_names) for source, name in names.items())
     return told + ([f"{renamed} names are made, and stand in source_links.csv and source_nodes.csv"] if renamed else [])
 
@@ -30,16 +33,21 @@ def changes_table(made: Carried, added: Container[str] = ()) -> list[str]:
         some = [change for change in made.fit.changes if change.kind == kind]
         moved, time = sum(abs(change.metres) for change in some), sum((change.time for change in some), Fraction(0))
         worst = max(some, key=lambda change: abs(change.metres))
-        told.append(f"  {kind:<17}{len(some):>6}  {metres_text(Fraction(moved)):>9} m  {float(time) / 1000:>+9.1f} s "
-                    f" most: {worst.name}, {worst.note}")
+        told.append(
+            f"  {kind:<17}{len(some):>6}  {metres_text(Fraction(moved)):>9} m  {float(time) / 1000:>+9.1f} s "
+            f" most: {worst.name}, {worst.note}"
+        )
     if not kinds:
         told.append("  nothing")
-    before, after = totals(road for name, road in made.raw.roads.items()
-                           if name not in added), totals(made.network.roads.values())
-    told.append(f"  length {float(before[0]) / 1000:.1f} km becomes {float(after[0]) / 1000:.1f} km"
-                f" ({signed(after[0] / before[0] - 1)}),"
-                f" free-flow times {float(before[1]) / 1000:.0f} s become {float(after[1]) / 1000:.0f} s"
-                f" ({signed(after[1] / before[1] - 1)})")
+    before, after = road_totals(road for name, road in made.raw.roads.items() if name not in added), road_totals(
+        made.network.roads.values()
+    )
+    told.append(
+        f"  length {float(before[0]) / 1000:.1f} km becomes {float(after[0]) / 1000:.1f} km"
+        f" ({signed(after[0] / before[0] - 1)}),"
+        f" free-flow times {float(before[1]) / 1000:.0f} s become {float(after[1]) / 1000:.0f} s"
+        f" ({signed(after[1] / before[1] - 1)})"
+    )
     return told
 
 
@@ -56,6 +64,8 @@ def routes_table(made: Carried, routes: Iterable[tuple[tuple[str, ...], int]], c
         return []
     mean = sum((share for share, *_ in moved), Fraction(0)) / len(moved)
     worst = max(moved, key=lambda item: abs(item[0]))
-    return [f"free-flow times of the {len(moved)} most used routes: {signed(mean)} in the mean, at worst"
-            f" {signed(worst[0])}"
-            f" ({worst[1][0]} to {worst[1][-1]}, {float(worst[2]) / 1000:.1f} s becomes {worst[3] / 1000:.1f} s)"]
+    return [
+        f"free-flow times of the {len(moved)} most used routes: {signed(mean)} in the mean, at worst"
+        f" {signed(worst[0])}"
+        f" ({worst[1][0]} to {worst[1][-1]}, {float(worst[2]) / 1000:.1f} s becomes {worst[3] / 1000:.1f} s)"
+    ]

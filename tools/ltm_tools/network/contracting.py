@@ -20,16 +20,20 @@ def contract_some(fit: Fitting) -> bool:
     return done
 
 
-def between(fit: Fitting, road: Road) -> list[str]:
+def roads_between(fit: Fitting, road: Road) -> list[str]:
     """The roads between the ends of a road, in both directions."""
-    return [name for node, other in ((road.tail, road.head), (road.head, road.tail))
-            for name in fit.network.outs[node] if fit.network.roads[name].head == other]
+    return [
+        name
+        for node, other in ((road.tail, road.head), (road.head, road.tail))
+        for name in fit.network.outs[node]
+        if fit.network.roads[name].head == other
+    ]
 
 
 def may_contract(fit: Fitting, road: Road) -> bool:
     """Whether the ends of a road may become one node."""
     tail, head, network = road.tail, road.head, fit.network
-    gone = between(fit, road)
+    gone = roads_between(fit, road)
     if tail in network.ends and head in network.ends or tail == head:
         return False
     if any(name in network.signals or not fit.short(network.roads[name]) for name in gone):
@@ -60,21 +64,39 @@ def only_behind(fit: Fitting, road: Road) -> bool:
 def heirs(fit: Fitting, road: Road) -> list[tuple[Road, Road]]:
     """The roads to which the length, the time and the storage of a contracted road go, as they are and as they
     become."""
-    gone = between(fit, road)
-    names = (fit.network.ins[road.tail] if only_before(fit, road) else fit.network.outs[road.head]
-             if only_behind(fit, road) else [])
+    gone = roads_between(fit, road)
+    names = (
+        fit.network.ins[road.tail]
+        if only_before(fit, road)
+        else fit.network.outs[road.head]
+        if only_behind(fit, road)
+        else []
+    )
     were = [fit.network.roads[name] for name in names if name not in gone]
-    return [(heir, replace(heir, length=heir.length + road.length, time=heir.time + road.time,
-                           storage=heir.storage + road.storage / len(were)))
-            for heir in were]
+    return [
+        (
+            heir,
+            replace(
+                heir,
+                length=heir.length + road.length,
+                time=heir.time + road.time,
+                storage=heir.storage + road.storage / len(were),
+            ),
+        )
+        for heir in were
+    ]
 
 
 def comes_back(fit: Fitting, road: Road) -> bool:
     """Whether the head of a road leads back to its tail by at most three roads that are too short as well."""
     reached = {road.head}
     for _ in range(3):
-        reached |= {fit.network.roads[name].head for node in reached for name in fit.network.outs[node]
-                    if fit.short(fit.network.roads[name])}
+        reached |= {
+            fit.network.roads[name].head
+            for node in reached
+            for name in fit.network.outs[node]
+            if fit.short(fit.network.roads[name])
+        }
     return road.tail in reached
 
 
@@ -82,7 +104,7 @@ def contract(fit: Fitting, road: Road) -> None:
     """Makes one node of the ends of a road."""
     network, found = fit.network, heirs(fit, road)
     pushed_from, pushed_to = [was for was, _ in found], [heir for _, heir in found]
-    taken = [network.roads[name] for name in between(fit, road)]
+    taken = [network.roads[name] for name in roads_between(fit, road)]
     kept, other = (road.head, road.tail) if road.head in network.ends else (road.tail, road.head)
     for one in taken:
         network.remove(one.name)

@@ -23,7 +23,7 @@ def most_used(units: Mapping[str, int], most: int) -> list[str]:
     return sorted(units, key=lambda node: (-units[node], node))[:most]
 
 
-def joined(network: Network, kept: Iterable[str], others: Iterable[str]) -> dict[str, Joined]:
+def nearest_kept(network: Network, kept: Iterable[str], others: Iterable[str]) -> dict[str, Joined]:
     """For each other node the nearest of those that are kept, driven to it or from it; none where no way leads either
     way."""
     listed = list(kept)

@@ -21,7 +21,7 @@ from fractions import Fraction
 
 from .arms import split_node
 from .contracting import contract_some
-from .fitting import Change, Fitting, stretched
+from .fitting import FitChange, Fitting, stretched
 from .merging import merge_some
 from .network import Network, Road, most_capacity
 
@@ -31,7 +31,7 @@ def most_top(road: Road) -> Fraction:
     return road.kmh * road.jam / 2
 
 
-class Fit(Fitting):
+class FittedNetwork(Fitting):
     """A network that is fitted to a step in ms."""
 
     def run(self) -> Network:
@@ -54,7 +54,7 @@ class Fit(Fitting):
             most = min(most_capacity(self.step), most_top(road))
             if road.capacity > most:
                 note = f"from {float(road.capacity):g} to {float(most):g} vehicles an hour"
-                self.changes.append(Change("capacity lowered", road.name, Fraction(0), Fraction(0), note))
+                self.changes.append(FitChange("capacity lowered", road.name, Fraction(0), Fraction(0), note))
                 road.capacity = most
 
     def shift(self, name: str) -> bool:
@@ -62,20 +62,28 @@ class Fit(Fitting):
         be."""
         road = self.network.roads[name]
         missing = self.missing(road)
-        for node, longer, shorter in ((road.head, self.network.ins, self.network.outs),
-                                      (road.tail, self.network.outs, self.network.ins)):
+        for node, longer, shorter in (
+            (road.head, self.network.ins, self.network.outs),
+            (road.tail, self.network.outs, self.network.ins),
+        ):
             if node in self.network.ends or not shorter[node]:
                 continue
             grown = [self.network.roads[other] for other in longer[node]]
             cut = [self.network.roads[other] for other in shorter[node]]
-            if any(other.time <= 2 * missing or self.short(stretched(other, -missing))
-                   for other in cut) or set(longer[node]) & set(shorter[node]):
+            if any(other.time <= 2 * missing or self.short(stretched(other, -missing)) for other in cut) or set(
+                longer[node]
+            ) & set(shorter[node]):
                 continue
             made = [stretched(other, missing) for other in grown] + [stretched(other, -missing) for other in cut]
             for other in made:
                 self.put(other)
-            self.tell("shifted", name, [*grown, *cut], made,
-                      f"longer by {seconds(missing)} s, as roads beyond {node} are shorter")
+            self.tell(
+                "shifted",
+                name,
+                [*grown, *cut],
+                made,
+                f"longer by {seconds_tenths(missing)} s, as roads beyond {node} are shorter",
+            )
             return True
         return False
 
@@ -84,11 +92,12 @@ class Fit(Fitting):
         road = self.network.roads[name]
         made = stretched(road, self.missing(road))
         self.put(made)
-        self.tell("lengthened", name, [road], [made],
-                  f"from {metres_text(road.length)} to {metres_text(made.length)} m")
+        self.tell(
+            "lengthened", name, [road], [made], f"from {metres_text(road.length)} to {metres_text(made.length)} m"
+        )
 
 
-def seconds(time: Fraction) -> str:
+def seconds_tenths(time: Fraction) -> str:
     """A time in ms as seconds with one decimal."""
     return f"{float(time) / 1000:.1f}"
 

@@ -6,11 +6,11 @@ from dataclasses import dataclass, replace
 from fractions import Fraction
 
 from ..errors import Fault
-from .network import Network, Road, diagram, totals
+from .network import Network, Road, diagram_of, road_totals
 
 
 @dataclass(frozen=True, slots=True)
-class Change:
+class FitChange:
     """One thing that was changed, with what it adds to the length (metres) and the free-flow time (ms) of the
     network."""
 
@@ -24,13 +24,14 @@ class Change:
 def stretched(road: Road, time: Fraction) -> Road:
     """The road made longer by a free-flow time in ms, at its speed and density; shorter where the time is below 0."""
     metres = time * road.kmh / 3600
-    return replace(road, length=road.length + metres, time=road.time + time,
-                   storage=road.storage + metres * road.jam / 1000)
+    return replace(
+        road, length=road.length + metres, time=road.time + time, storage=road.storage + metres * road.jam / 1000
+    )
 
 
-def longest_step(road: Road, step: int | None = None) -> int:
+def longest_road_step(road: Road, step: int | None = None) -> int:
     """The longest step in ms at which the program takes the road."""
-    return diagram(road, step).longest_step_ms
+    return diagram_of(road, step).longest_step_ms
 
 
 class Fitting:
@@ -39,7 +40,7 @@ class Fitting:
     def __init__(self, raw: Network, step: int) -> None:
         self.raw, self.step = raw, step
         self.network = raw.copy()
-        self.changes: list[Change] = []
+        self.changes: list[FitChange] = []
         self.moved: dict[str, str] = {}
         self.lost: set[str] = set()
 
@@ -56,40 +57,54 @@ class Fitting:
 
     def short(self, road: Road) -> bool:
         """Whether a road is too short for the step."""
-        return longest_step(road, self.step) < self.step
+        return longest_road_step(road, self.step) < self.step
 
     def carries(self, road: Road) -> bool:
         """Whether a road has the speed and the storage for its capacity."""
         try:
-            diagram(road, self.step)
+            diagram_of(road, self.step)
         except Fault:
             return False
         return True
 
     def too_short(self) -> list[str]:
         """The roads that are too short, the shortest first."""
-        return [road.name for road in sorted(self.network.roads.values(), key=lambda road: (road.time, road.name))
-                if self.short(road)]
+        return [
+            road.name
+            for road in sorted(self.network.roads.values(), key=lambda road: (road.time, road.name))
+            if self.short(road)
+        ]
 
     def missing(self, road: Road) -> Fraction:
         """The free-flow time in ms by which a road is too short."""
-        link = diagram(road, self.step)
+        link = diagram_of(road, self.step)
         fastest = max(link.free_kmh, link.wave_kmh)
         metres = ((self.step - 1) * fastest) // 3600 + 1
-        made = Road(road.name, road.tail, road.head, Fraction(metres), Fraction(metres * 3600) / road.kmh,
-                    road.jam * metres / 1000, road.capacity, road.kind, road.parts)
+        made = Road(
+            road.name,
+            road.tail,
+            road.head,
+            Fraction(metres),
+            Fraction(metres * 3600) / road.kmh,
+            road.jam * metres / 1000,
+            road.capacity,
+            road.kind,
+            road.parts,
+        )
         if link.passing_step_ms < self.step:
-            raise Fault(f"link {road.name}: with {link.jam_per_km} vehicles/km more than 32 vehicles pass in"
-                        f" {self.step} ms at any wave speed;"
-                        " take a shorter step")
+            raise Fault(
+                f"link {road.name}: with {link.jam_per_km} vehicles/km more than 32 vehicles pass in"
+                f" {self.step} ms at any wave speed;"
+                " take a shorter step"
+            )
         while self.short(made):
             made = stretched(made, 3600 / road.kmh)
         return made.time - road.time
 
     def tell(self, kind: str, name: str, before: Iterable[Road], after: Iterable[Road], note: str = "") -> None:
         """Notes a change from some roads to others."""
-        was, now = totals(before), totals(after)
-        self.changes.append(Change(kind, name, now[0] - was[0], now[1] - was[1], note))
+        was, now = road_totals(before), road_totals(after)
+        self.changes.append(FitChange(kind, name, now[0] - was[0], now[1] - was[1], note))
 
     def put(self, road: Road) -> None:
         """Puts a road in place of the one of its name, which has the same ends."""

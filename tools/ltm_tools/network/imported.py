@@ -2,18 +2,21 @@
 from __future__ import annotations
 
 import os
-from dataclasses import dataclass
+from collections.abc import Mapping
+from dataclasses import dataclass, field
 from pathlib import Path
 
 from ..case import Case
+from ..case.background import Background, write_background
 from ..case.beside import TURNS_FILE
 from ..case.clock import FILE as CLOCK_FILE, write_clock
 from ..case.places import FILES, Places
+from ..case.source import Source, quoted_lines
+from ..case.streets import write_streets
 from ..files import write_text
 from ..replacing import take_away, together
 from .crossings.turns_file import Turns
-from .fitting import Change
-from .source import Source, lines_of
+from .fitting import FitChange
 
 CHANGES_FILE = "changes.csv"
 
@@ -27,16 +30,21 @@ class Imported:
     case: Case
     places: Places | None
     source: Source
-    changes: tuple[Change, ...] | None
+    changes: tuple[FitChange, ...] | None
     told: tuple[str, ...]
     clock: int | None = None
     turns: Turns | None = None
     """The turns of its crossings, where these are links."""
+    streets: Mapping[str, str] = field(default_factory=dict)
+    """The names of streets by link."""
+    background: Background = Background()
+    """What a map draws behind the links."""
 
     def write(self, folder: str | os.PathLike[str]) -> list[str]:
         """Writes the case into a folder, and beside it `source_links.csv`, `source_nodes.csv`, `nodes.csv` and
-        `shapes.csv` where places are known, `clock.txt` where the clock is, of a fitted network `changes.csv`, and
-        `turns.csv` where turns are links.
+        `shapes.csv` where places are known, `clock.txt` where the clock is, of a fitted network `changes.csv`,
+        `turns.csv` where turns are links, `street_names.csv` where streets have names, and `background.json`
+        where the source has more to draw.
         Gives what is to be told of older files there, a line each."""
         with together():
             self.case.write(folder)
@@ -49,11 +57,15 @@ class Imported:
                 self.turns.write(folder)
             else:
                 take_away(Path(folder) / TURNS_FILE)
+            write_streets(folder, self.streets)
+            write_background(folder, self.background)
             path = Path(folder) / CHANGES_FILE
             if self.changes is not None:
-                rows = [(change.kind, change.name, f"{float(change.metres):.3f}", f"{float(change.time):.0f}",
-                         change.note) for change in self.changes]
-                write_text(path, lines_of([("change", "name", "metres", "ms", "note"), *rows]))
+                rows = [
+                    (change.kind, change.name, f"{float(change.metres):.3f}", f"{float(change.time):.0f}", change.note)
+                    for change in self.changes
+                ]
+                write_text(path, quoted_lines([("change", "name", "metres", "ms", "note"), *rows]))
             else:
                 take_away(path)
         return self.older(os.fspath(folder))
@@ -64,9 +76,14 @@ class Imported:
         if self.case.splits is None and os.path.exists(os.path.join(folder, "splits.csv")):
             told.append(f"an older splits.csv stands in {folder}: ltm routes, or ltm-tools splits, makes it anew")
         if self.places is None:
-            told += [f"an older {name} stands in {folder}, and the network says no places: take it away"
-                     for name in FILES if os.path.exists(os.path.join(folder, name))]
+            told += [
+                f"an older {name} stands in {folder}, and the network says no places: take it away"
+                for name in FILES
+                if os.path.exists(os.path.join(folder, name))
+            ]
         if self.clock is None and os.path.exists(os.path.join(folder, CLOCK_FILE)):
-            told.append(f"an older {CLOCK_FILE} stands in {folder}, and nothing says when this case begins: take it"
-                        f" away, or give a start")
+            told.append(
+                f"an older {CLOCK_FILE} stands in {folder}, and nothing says when this case begins: take it"
+                f" away, or give a start"
+            )
         return told

@@ -14,11 +14,30 @@ from .lines import Point
 
 EARTH_M = 6_371_008.8
 MOST_PLACE = 1e10  # a coordinate beyond it is none
+METRES = {"m": Fraction(1), "km": Fraction(1000), "mi": Fraction(1609344, 1000), "ft": Fraction(3048, 10000)}
+LENGTH_WORDS = {
+    "m": "m",
+    "meter": "m",
+    "meters": "m",
+    "metre": "m",
+    "metres": "m",
+    "km": "km",
+    "kilometer": "km",
+    "kilometers": "km",
+    "kilometre": "km",
+    "kilometres": "km",
+    "mi": "mi",
+    "mile": "mi",
+    "miles": "mi",
+    "ft": "ft",
+    "foot": "ft",
+    "feet": "ft",
+}
 UNITS = {"degrees": None, "m": 1.0, "km": 1000.0, "ft": 0.3048, "mi": 1609.344}
 NUMBER = re.compile(r"[-+]?(?:[0-9]+\.?[0-9]*|\.[0-9]+)(?:[eE][-+]?[0-9]+)?")
 
 
-def points_of(text: str) -> list[Point]:
+def wkt_points(text: str) -> list[Point]:
     """The points of a LINESTRING in well-known text (the first part of a MULTILINESTRING); none where it is no such
     line, or one of its numbers can be no place."""
     head, _, rest = text.partition("(")
@@ -36,16 +55,18 @@ def points_of(text: str) -> list[Point]:
 def metres(points: Sequence[Point], unit: str) -> Fraction:
     """The length of a line in metres."""
     scale = UNITS[unit]
-    length = sum((degrees_apart(a, b) if scale is None else math.dist(a, b) * scale)
-                 for a, b in zip(points, points[1:]))
+    length = sum(
+        (degrees_apart(a, b) if scale is None else math.dist(a, b) * scale) for a, b in zip(points, points[1:])
+    )
     return Fraction(round(length * 1000), 1000)
 
 
 def degrees_apart(a: Point, b: Point) -> float:
     """The metres between two places in degrees, on a sphere (the haversine formula)."""
     east, north = math.radians(b[0] - a[0]), math.radians(b[1] - a[1])
-    half = (math.sin(north / 2) ** 2 + math.cos(math.radians(a[1])) * math.cos(math.radians(b[1]))
-            * math.sin(east / 2) ** 2)
+    half = (
+        math.sin(north / 2) ** 2 + math.cos(math.radians(a[1])) * math.cos(math.radians(b[1])) * math.sin(east / 2) ** 2
+    )
     return 2 * EARTH_M * math.asin(math.sqrt(min(1.0, max(0.0, half))))  # below 0 past the poles
 
 

@@ -12,8 +12,11 @@ def joined(lines: Iterable[Sequence[Point]]) -> Line:
     """Lines one after the other as one, without a point that stands twice in a row."""
     points: list[Point] = []
     for line in lines:
-        points += [point for place, point in enumerate(line)
-                   if point != (line[place - 1] if place else points[-1] if points else None)]
+        points += [
+            point
+            for place, point in enumerate(line)
+            if point != (line[place - 1] if place else points[-1] if points else None)
+        ]
     return tuple(points)
 
 
@@ -25,7 +28,7 @@ def cut_at(line: Sequence[Point], share: float) -> tuple[Line, Line]:
         if left <= length and length > 0:
             (x, y), (to_x, to_y), part = line[place], line[place + 1], left / length
             middle = (x + part * (to_x - x), y + part * (to_y - y))
-            return joined([line[:place + 1], [middle]]), joined([[middle], line[place + 1:]])
+            return joined([line[: place + 1], [middle]]), joined([[middle], line[place + 1 :]])
         left -= length
     return joined([line]), tuple(line[-1:])
 

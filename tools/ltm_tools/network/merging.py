@@ -51,10 +51,18 @@ def merge(fit: Fitting, node: str) -> None:
     """Merges the roads through a node, in each direction."""
     for first, second in pairs_at(fit, node):
         longer = first if first.length >= second.length else second
-        made = Road(longer.name, first.tail, second.head, first.length + second.length, first.time + second.time,
-                    first.storage + second.storage, min(first.capacity, second.capacity), longer.kind,
-                    first.parts + second.parts,
-                    joined([fit.network.line(first), fit.network.line(second)]))
+        made = Road(
+            longer.name,
+            first.tail,
+            second.head,
+            first.length + second.length,
+            first.time + second.time,
+            first.storage + second.storage,
+            min(first.capacity, second.capacity),
+            longer.kind,
+            first.parts + second.parts,
+            joined([fit.network.line(first), fit.network.line(second)]),
+        )
         shorter = second if longer is first else first
         fit.network.remove(first.name)
         fit.network.remove(second.name)
@@ -62,7 +70,10 @@ def merge(fit: Fitting, node: str) -> None:
         if second.name in fit.network.signals:
             fit.network.signals.discard(second.name)
             fit.network.signals.add(made.name)
-        note = "" if first.capacity == second.capacity else \
-            f"capacities {float(first.capacity):g} and {float(second.capacity):g} become the lesser"
+        note = (
+            ""
+            if first.capacity == second.capacity
+            else f"capacities {float(first.capacity):g} and {float(second.capacity):g} become the lesser"
+        )
         fit.tell("merged", shorter.name, [first, second], [made], f"with {made.name}{'; ' + note if note else ''}")
     fit.network.drop_node(node)

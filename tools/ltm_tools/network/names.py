@@ -19,7 +19,7 @@ def names_for(sources: Iterable[str], rename: bool) -> dict[str, str]:
     taken = set(made)
     for source in listed:
         if source not in made:
-            made[source] = unlike(made_name(source), taken)
+            made[source] = untaken(made_name(source), taken)
             taken.add(made[source])
     return made
 
@@ -29,7 +29,7 @@ def made_name(source: str) -> str:
     return re.sub(r"[^A-Za-z0-9_-]", "_", source)[-MOST:] or "_"
 
 
-def unlike(name: str, taken: set[str]) -> str:
+def untaken(name: str, taken: set[str]) -> str:
     """The name, or with a number behind it the first that is not taken."""
     number, made = 1, name
     while made in taken:

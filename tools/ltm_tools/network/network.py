@@ -12,16 +12,16 @@ from fractions import Fraction
 from functools import lru_cache
 
 from ..case import Link
+from ..case.least import least
 from ..errors import Fault
 from ..formats import HOUR_MS, MOST_JAM_PER_KM, MOST_KMH, MOST_LENGTH_M, MOST_SLOT_UNITS
-from .least import least
 from .lines import Line, Point, joined
 
 LEAST_M = Fraction(1)
 """The length of a road that is shorter in its source, as a link of a case has whole metres."""
 
 
-def nearest(number: Fraction) -> int:
+def nearest_whole(number: Fraction) -> int:
     """The nearest whole number, halves upwards, and at least 1."""
     return max(1, (2 * number.numerator + number.denominator) // (2 * number.denominator))
 
@@ -72,8 +72,18 @@ class Road:
         return self.storage * 1000 / self.length
 
 
-def road_of(name: str, tail: str, head: str, *, metres: Fraction, kmh: Fraction, jam: Fraction, capacity: Fraction,
-            kind: str = "", shape: Line = ()) -> Road:
+def road_of(
+    name: str,
+    tail: str,
+    head: str,
+    *,
+    metres: Fraction,
+    kmh: Fraction,
+    jam: Fraction,
+    capacity: Fraction,
+    kind: str = "",
+    shape: Line = (),
+) -> Road:
     """The road of a length in metres, a free speed in km/h, a jam density in vehicles/km and a capacity an hour; one
     that is shorter has LEAST_M."""
     metres = max(metres, LEAST_M)
@@ -97,31 +107,36 @@ def wave_of(capacity: Fraction, free: int, jam: int, most: Fraction | None = Non
     return min(fitting, key=lambda pair: abs(pair[1] - capacity))[0]
 
 
-def diagram(road: Road, step: int | None = None) -> Link:
+def diagram_of(road: Road, step: int | None = None) -> Link:
     """The road in the whole numbers of `links.csv`: the nearest length, the speed with the nearest free-flow time, the
     jam density with the nearest storage, and the wave speed with the nearest capacity. With a step in ms the capacity
     is kept to what may pass in a slot."""
-    metres, free, jam, wave = whole_numbers(road.length, road.time, road.storage, road.capacity, step)
+    metres, free, jam, wave = whole_diagram(road.length, road.time, road.storage, road.capacity, step)
     if wave is None or wave > MOST_KMH:
-        raise Fault(f"link {road.name}: a capacity of {float(road.capacity):g} an hour is too much for {free} km/h and"
-                    f" {jam} vehicles/km;"
-                    " give a greater --jam, or --fit, which lowers it")
+        raise Fault(
+            f"link {road.name}: a capacity of {float(road.capacity):g} an hour is too much for {free} km/h and"
+            f" {jam} vehicles/km;"
+            " give a greater --jam, or --fit, which lowers it"
+        )
     if metres > MOST_LENGTH_M or free > MOST_KMH or jam > MOST_JAM_PER_KM:
-        raise Fault(f"link {road.name}: {metres} m, {free} km/h and {jam} vehicles/km, and at most {MOST_LENGTH_M},"
-                    f" {MOST_KMH} and {MOST_JAM_PER_KM}"
-                    " are allowed; look at the units of lengths and speeds")
+        raise Fault(
+            f"link {road.name}: {metres} m, {free} km/h and {jam} vehicles/km, and at most {MOST_LENGTH_M},"
+            f" {MOST_KMH} and {MOST_JAM_PER_KM}"
+            " are allowed; look at the units of lengths and speeds"
+        )
     return Link(road.name, road.tail, road.head, metres, free, wave, jam)
 
 
 @lru_cache(10_000)  # a fit asks again and again for roads that it has not changed
-def whole_numbers(length: Fraction, time: Fraction, storage: Fraction, capacity: Fraction,
-                  step: int | None) -> tuple[int, int, int, int | None]:
+def whole_diagram(
+    length: Fraction, time: Fraction, storage: Fraction, capacity: Fraction, step: int | None
+) -> tuple[int, int, int, int | None]:
     """The metres, free speed, jam density and wave speed of such a road; no wave where no top is so high."""
-    metres = nearest(length)
+    metres = nearest_whole(length)
     exact = metres * 3600 / time
     below = max(1, exact.numerator // exact.denominator)
     free = min((below, below + 1), key=lambda speed: abs(Fraction(metres * 3600, speed) - time))
-    jam = nearest(storage * 1000 / metres)
+    jam = nearest_whole(storage * 1000 / metres)
     return metres, free, jam, wave_of(capacity, free, jam, None if step is None else most_capacity(step))
 
 
@@ -149,9 +164,14 @@ class Network:
 
     def copy(self) -> Network:
         """A network of its own, with the same nodes and roads."""
-        made = Network(dict(self.nodes), {}, {zone: dict(shares) for zone, shares in self.origins.items()},
-                       {zone: dict(shares) for zone, shares in self.destinations.items()}, set(self.ends),
-                       set(self.signals))
+        made = Network(
+            dict(self.nodes),
+            {},
+            {zone: dict(shares) for zone, shares in self.origins.items()},
+            {zone: dict(shares) for zone, shares in self.destinations.items()},
+            set(self.ends),
+            set(self.signals),
+        )
         for node in self.nodes:
             made.outs.setdefault(node, [])
             made.ins.setdefault(node, [])
@@ -211,13 +231,15 @@ class Network:
         return list(dict.fromkeys(end for road in self.roads.values() for end in (road.tail, road.head)))
 
 
-def least_times(network: Network, destination: str, cost: Callable[[Road], Fraction | int]
-                | None = None) -> dict[str, Fraction | int]:
+def least_times(
+    network: Network, destination: str, cost: Callable[[Road], Fraction | int] | None = None
+) -> dict[str, Fraction | int]:
     """The least free-flow time in ms from each node that has a route to the destination."""
     of, roads = cost or (lambda road: road.time), network.roads
     none: Fraction | int = 0
-    return least(destination, none, lambda node: ((roads[name].tail, of(roads[name]))
-                                                  for name in network.ins.get(node, ())))
+    return least(
+        destination, none, lambda node: ((roads[name].tail, of(roads[name])) for name in network.ins.get(node, ()))
+    )
 
 
 def least_route(network: Network, origin: str, destination: str, times: dict[str, Fraction | int]) -> list[str]:
@@ -226,15 +248,20 @@ def least_route(network: Network, origin: str, destination: str, times: dict[str
         return []
     route, node = [], origin
     while node != destination:
-        name = min((name for name in network.outs[node] if network.roads[name].head in times),
-                   key=lambda name: network.roads[name].time + times[network.roads[name].head])
+        name = min(
+            (name for name in network.outs[node] if network.roads[name].head in times),
+            key=lambda name: network.roads[name].time + times[network.roads[name].head],
+        )
         route.append(name)
         node = network.roads[name].head
     return route
 
 
-def totals(roads: Iterable[Road]) -> tuple[Fraction, Fraction, Fraction]:
+def road_totals(roads: Iterable[Road]) -> tuple[Fraction, Fraction, Fraction]:
     """The metres, the milliseconds and the vehicles stored, over roads."""
     chosen = list(roads)
-    return (sum((road.length for road in chosen), Fraction(0)), sum((road.time for road in chosen), Fraction(0)),
-            sum((road.storage for road in chosen), Fraction(0)))
+    return (
+        sum((road.length for road in chosen), Fraction(0)),
+        sum((road.time for road in chosen), Fraction(0)),
+        sum((road.storage for road in chosen), Fraction(0)),
+    )

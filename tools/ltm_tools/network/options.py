@@ -31,13 +31,19 @@ class Options:
     """Whether what moves through a turn is floored for the turn, and not for each destination; without it, where there
     are more than 16."""
 
+    carry: bool = True
+    """Whether what is left over of a capacity, rounded down in a slot, is carried to the next."""
+    entries: bool = True
+    """Whether trips that begin at a node that others drive over come to it by a link of their own."""
     crossings: CrossingOptions = CrossingOptions()
     """Which crossings have their turns as links, and how."""
 
     RANGES: ClassVar[dict[str, tuple[int, int | None]]] = {
-        "origin_capacity": (1, MOST_SLOT_UNITS // UNITS), "destinations": (1, MOST_DESTINATIONS_ASKED),
+        "origin_capacity": (1, MOST_SLOT_UNITS // UNITS),
+        "destinations": (1, MOST_DESTINATIONS_ASKED),
         "fit": (1, MOST_STEP_MS),
-        "step": (1, MOST_STEP_MS), "least_step": (1, MOST_STEP_MS),
+        "step": (1, MOST_STEP_MS),
+        "least_step": (1, MOST_STEP_MS),
     }
 
     def __post_init__(self) -> None:

@@ -24,15 +24,19 @@ class Map:
 
     def metres(self, place: Place) -> Place:
         """The place without what was added to it, exactly, as the file has the numbers."""
-        x, y = place if not any(self.added) else (float(Fraction(repr(number)) - added)
-                                                  for number, added in zip(place, self.added))
+        x, y = (
+            place
+            if not any(self.added)
+            else (float(Fraction(repr(number)) - added) for number, added in zip(place, self.added))
+        )
         return x, y
 
     def has(self, *places: Place) -> bool:
         """Whether these lie where the projection has something of the earth."""
         added = tuple(map(float, self.added))
-        return self.projection is None or all(abs(x - added[0]) <= FARTHEST_M and abs(y - added[1]) <= FARTHEST_M
-                                              for x, y in places)
+        return self.projection is None or all(
+            abs(x - added[0]) <= FARTHEST_M and abs(y - added[1]) <= FARTHEST_M for x, y in places
+        )
 
     def place(self, place: Place) -> Place:
         """The place as `nodes.csv` has it."""

@@ -34,10 +34,10 @@ class TransverseMercator:
         n = flattening / (2 - flattening)
         radius = self.scale * axis / (1 + n) * (1 + n**2 / 4 + n**4 / 64 + n**6 / 256)
         up, right = (place[1] - self.north) / radius, (place[0] - self.east) / radius
-        up, right = (up - sum(beta * math.sin(2 * j * up) * math.cosh(2 * j * right)
-                              for j, beta in enumerate(series(n), 1)),
-                     right - sum(beta * math.cos(2 * j * up) * math.sinh(2 * j * right)
-                                 for j, beta in enumerate(series(n), 1)))
+        up, right = (
+            up - sum(beta * math.sin(2 * j * up) * math.cosh(2 * j * right) for j, beta in enumerate(series(n), 1)),
+            right - sum(beta * math.cos(2 * j * up) * math.sinh(2 * j * right) for j, beta in enumerate(series(n), 1)),
+        )
         conformal = math.sin(up) / math.hypot(math.sinh(right), math.cos(up))
         longitude = math.degrees(math.atan2(math.sinh(right), math.cos(up)))
         return self.meridian + longitude, math.degrees(math.atan(tangent(conformal, flattening)))
@@ -74,7 +74,12 @@ def projection_of(text: str) -> TransverseMercator | None:
     ellipsoid = ELLIPSOIDS.get(words.get("ellps", words.get("datum", "")))
     zone = int(words["zone"]) if words.get("zone", "").isdecimal() else 0
     shifted = words.get("towgs84", "").strip("-0.,") != ""
-    if words.get("proj") != "utm" or ellipsoid is None or not 1 <= zone <= 60 or shifted or words.get("units",
-                                                                                                      "m") != "m":
+    if (
+        words.get("proj") != "utm"
+        or ellipsoid is None
+        or not 1 <= zone <= 60
+        or shifted
+        or words.get("units", "m") != "m"
+    ):
         return None
     return TransverseMercator(ellipsoid, 6.0 * zone - 183, UTM_SCALE, UTM_EAST, UTM_SOUTH if "south" in words else 0.0)

@@ -2,8 +2,8 @@
 from __future__ import annotations
 
 from ..case.valid import leading
+from ..demand.passages import strong_parts
 from .network import Network
-from .passages import strong_parts
 
 
 class Reach:

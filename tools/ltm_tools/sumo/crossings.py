@@ -4,6 +4,7 @@ from __future__ import annotations
 from dataclasses import dataclass
 from fractions import Fraction
 
+from ..demand.route_splits import Route, led_over, units_by_links
 from ..formats import MINUTE_MS
 from ..network.crossings.chosen import Chosen, chosen
 from ..network.crossings.expand import Expanded, Form, cut_as_they_are, expand
@@ -12,7 +13,7 @@ from ..network.crossings.movements import Movements, Pair
 from ..network.crossings.told import crossings_told, whole_told
 from ..network.crossings.turn import turns_of
 from ..network.crossings.volumes import turns_counted
-from ..network.route_splits import Route, led_over, units_by_links
+from ..network.crossings.yielding import Yielding, names_of, yields_of
 from ..network.steps import longest_step
 from .inputs import Inputs, counted_routes
 from .movements import movements
@@ -20,7 +21,7 @@ from .options import SumoOptions
 
 
 @dataclass
-class Turned:
+class TurnedNet:
     """A net with turns as links: the turns that it allows, what has become of its crossings, what each approach lets
     pass in an hour, the lanes of turns where these are counted, and the routes by which traffic is counted, where these
     are not those of the case."""
@@ -34,62 +35,101 @@ class Turned:
     """Of each node the thousandths of vehicles that drive over it."""
 
 
+def movements_of_net(inputs: Inputs, options: SumoOptions) -> Movements:
+    """The turns of a net; without yielding at junctions without lights all such turns have the gaps of a plain sign."""
+    return movements(
+        inputs.net,
+        signals=options.signals,
+        yellow=options.yellow,
+        begin_ms=inputs.begin_ms,
+        by_kind=options.crossings.yielding,
+    )
+
+
 def choose(inputs: Inputs, options: SumoOptions) -> tuple[Movements, Chosen]:
     """The turns of a net, and the crossings that are to have them as links; those alone that can be cut, where nothing
     is fitted."""
     raw = inputs.net.network
-    found = movements(inputs.net, signals=options.signals, yellow=options.yellow, begin_ms=inputs.begin_ms)
-    wanted = chosen(raw, found, ends_of(inputs), options.crossings.turns)
-    picked = wanted if options.fit else cut_as_they_are(raw, wanted, step_of(inputs, options))
+    found = movements_of_net(inputs, options)
+    wanted = chosen(raw, found, route_ends(inputs), options.crossings.turns)
+    picked = wanted if options.fit else cut_as_they_are(raw, wanted, net_step(inputs, options))
     inputs.notes += whole_told(len(wanted.crossings) - len(picked.crossings))
     return found, picked
 
 
-def ends_of(inputs: Inputs) -> set[str]:
+def route_ends(inputs: Inputs) -> set[str]:
     """The nodes where trips end."""
     return {inputs.net.network.roads[name].head for name in {route.links[-1] for route in inputs.routes}}
 
 
-def turn(inputs: Inputs, found: Movements, picked: Chosen, options: SumoOptions) -> Turned:
+def turn(inputs: Inputs, found: Movements, picked: Chosen, options: SumoOptions) -> TurnedNet:
     """Makes links of the turns of the picked crossings, and leads the routes over them."""
     raw, asked = inputs.net.network, options.crossings
     begins = {raw.roads[route.links[0]].tail for route in inputs.routes} if asked.origins == "node" else set()
     capacities = {name: road.capacity for name, road in raw.roads.items()}
     counted = counted_routes(inputs, options)
-    lanes = lanes_by_counts(inputs, counted, found, capacities, options) if asked.lanes == "counted" else {}
-    form = Form(step=step_of(inputs, options), length_m=asked.length_m, lanes=lanes, ends=ends_of(inputs),
-                begins=begins)
+    lanes = lanes_by_counts(inputs, counted, found, capacities, options) if asked.lanes != "full" else {}
+    form = Form(
+        step=net_step(inputs, options),
+        length_m=asked.length_m,
+        lanes=lanes,
+        ends=route_ends(inputs),
+        begins=begins,
+        saturation=asked.saturation,
+    )
     made = expand(raw, found, picked, form)
-    vehicles = by_node(inputs.routes, made)
+    vehicles = units_by_node(inputs.routes, made)
     driven = led_over(inputs.routes, made.route)
-    inputs.notes += crossings_told(made, units_of(inputs.routes) - units_of(driven))
+    inputs.notes += crossings_told(made, route_units(inputs.routes) - route_units(driven))
     inputs.routes = driven
-    return Turned(found, made, capacities, lanes, None if options.volumes is None else led_over(counted, made.route),
-                  vehicles)
+    return TurnedNet(
+        found, made, capacities, lanes, None if options.volumes is None else led_over(counted, made.route), vehicles
+    )
 
 
-def lanes_by_counts(inputs: Inputs, routes: list[Route], found: Movements, capacities: dict[str, Fraction],
-                    options: SumoOptions) -> dict[Pair, Fraction]:
+def lanes_by_counts(
+    inputs: Inputs, routes: list[Route], found: Movements, capacities: dict[str, Fraction], options: SumoOptions
+) -> dict[Pair, Fraction]:
     """The lanes of turns by the vehicles that take them."""
     asked, names = options.crossings, {pair: f"{pair[0]} {pair[1]}" for pair in found.turns}
-    volumes = turns_counted(routes, {name: road.time for name, road in inputs.net.network.roads.items()},
-                            asked.slice_minutes * MINUTE_MS, names)
-    inputs.notes.append("turns have lanes by the counted routes (--lanes counted): where vehicles choose others, as in"
-                        " an assignment, take --lanes full")
-    return counted_lanes(turns_of(names, found, capacities, asked.permissive, {}), found, volumes)
+    volumes = turns_counted(
+        routes,
+        {name: road.time for name, road in inputs.net.network.roads.items()},
+        asked.slice_minutes * MINUTE_MS,
+        names,
+    )
+    inputs.notes.append(
+        "turns have lanes by the counted routes (--lanes counted): where vehicles choose others, as in"
+        " an assignment, take --lanes full"
+        if asked.lanes == "counted"
+        else "turns have of lanes that they share what their vehicles take by the counted routes, and at least an even"
+        " part (--lanes shared): where vehicles choose others, as in an assignment, take --lanes full"
+    )
+    turns = turns_of(names, found, capacities, asked.permissive, {}, asked.saturation)
+    return counted_lanes(turns, found, volumes, asked.lanes == "shared")
 
 
-def step_of(inputs: Inputs, options: SumoOptions) -> int:
+def yields_by_counts(inputs: Inputs, picked: Chosen, options: SumoOptions) -> list[Yielding]:
+    """The approaches of junctions without lights whose turns are no links, by the counted traffic."""
+    found = movements_of_net(inputs, options)
+    raw, asked = inputs.net.network, options.crossings
+    times = {name: road.time for name, road in raw.roads.items()}
+    routes = counted_routes(inputs, options)
+    volumes = turns_counted(routes, times, asked.slice_minutes * MINUTE_MS, names_of(found))
+    return yields_of(raw, found, volumes, asked.saturation, picked.crossings)
+
+
+def net_step(inputs: Inputs, options: SumoOptions) -> int:
     """The step in ms that a net is fitted to, or the longest that it allows as it is."""
     return options.fit or options.step or min(longest_step(inputs.net.network), MINUTE_MS)
 
 
-def units_of(routes: list[Route]) -> int:
+def route_units(routes: list[Route]) -> int:
     """The thousandths of vehicles of routes."""
     return sum(route.units for route in routes)
 
 
-def by_node(routes: list[Route], made: Expanded) -> dict[str, int]:
+def units_by_node(routes: list[Route], made: Expanded) -> dict[str, int]:
     """Of each node of the source the thousandths of vehicles whose routes come to it."""
     counts: dict[str, int] = {}
     for links, units in units_by_links(routes).items():

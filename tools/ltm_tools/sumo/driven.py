@@ -3,13 +3,13 @@ from __future__ import annotations
 
 from pathlib import Path
 
+from ..case.roads import Roads
+from ..case.source import Source
+from ..demand.counted_routes import CountedRoutes
+from ..demand.route_splits import Route
+from ..demand.values import quarter_before
 from ..errors import Fault
 from ..formats import clock_text, short_vehicles
-from ..network.counted_routes import CountedRoutes
-from ..network.demand_files import quarter_before
-from ..network.passages import Roads
-from ..network.route_splits import Route
-from ..network.source import Source
 from .routes import read_vehicles
 
 
@@ -23,8 +23,9 @@ def is_sumo(path: Path) -> bool:
     return start.startswith((b"<", b"\x1f\x8b"))
 
 
-def driven_routes(path: Path, roads: Roads, source: Source, *, horizon_ms: int,
-                  start_ms: int | None = None) -> CountedRoutes:
+def driven_routes(
+    path: Path, roads: Roads, source: Source, *, horizon_ms: int, start_ms: int | None = None
+) -> CountedRoutes:
     """The vehicles that set out within the horizon; those without a route over links of the source are left out, and
     counted."""
     found = read_vehicles([path])
@@ -44,11 +45,17 @@ def driven_routes(path: Path, roads: Roads, source: Source, *, horizon_ms: int,
             else:
                 found.leave_out("that take a turn that is not there", one.units)
     if not routes:
-        raise Fault(f"{path}: no vehicle with a route over links of the case that sets out within its slots; look at"
-                    " --start")
-    return CountedRoutes(routes, [f"slot 0 begins at {clock_text(begin)}",
-                                  *(f"{short_vehicles(units)} vehicles are left out: {why}"
-                                    for why, units in found.left_out.items())], begin)
+        raise Fault(
+            f"{path}: no vehicle with a route over links of the case that sets out within its slots; look at" " --start"
+        )
+    return CountedRoutes(
+        routes,
+        [
+            f"slot 0 begins at {clock_text(begin)}",
+            *(f"{short_vehicles(units)} vehicles are left out: {why}" for why, units in found.left_out.items()),
+        ],
+        begin,
+    )
 
 
 def route_or_none(edges: tuple[str, ...], source: Source, roads: Roads) -> tuple[str, ...]:

@@ -7,15 +7,15 @@ own, where the trips end.
 """
 from __future__ import annotations
 
-from collections.abc import Sequence
+from collections.abc import Container, Sequence
 from dataclasses import dataclass, field, replace
 from fractions import Fraction
 
+from ..demand.route_splits import Links, Route
 from ..network.arms import free_name
 from ..network.fitting import stretched
 from ..network.lines import cut_at
-from ..network.network import Network, Node, Road, diagram
-from ..network.route_splits import Links, Route
+from ..network.network import Network, Node, Road, diagram_of
 
 
 @dataclass
@@ -28,14 +28,21 @@ class Cut:
     too_short: int = 0
 
 
-def cut_ends(network: Network, routes: Sequence[Route], held: set[str], step: int) -> Cut:
-    """Cuts the last edges of routes that end at nodes where an edge with a signal is a last edge."""
+def cut_ends(
+    network: Network, routes: Sequence[Route], held: set[str], step: int, but: Container[str] | None = None
+) -> Cut:
+    """Cuts the last edges of routes that end at nodes where an edge with a signal is a last edge. With `but` each last
+    edge whose head other edges lead to as well gets an end of its own, apart from those at the nodes of `but`."""
     last = dict.fromkeys(route.links[-1] for route in routes)
-    nodes = dict.fromkeys(network.roads[name].head for name in last if name in held)
     made = Cut()
+    if but is not None:
+        cut_each(network, [name for name in last if network.roads[name].head not in but], step, made)
+    nodes = dict.fromkeys(
+        network.roads[name].head for name in last if name in held and name not in made.stops and but is None
+    )
     for node in nodes:
         edges = [name for name in last if network.roads[name].head == node]
-        if any(network.roads[name].time < 2 * part_time(network.roads[name], step) for name in edges):
+        if any(network.roads[name].time < 2 * cut_time(network.roads[name], step) for name in edges):
             made.too_short += len(edges)
             continue
         end = free_name(f"{node}_end", network.nodes)
@@ -45,16 +52,28 @@ def cut_ends(network: Network, routes: Sequence[Route], held: set[str], step: in
     return made
 
 
-def part_time(road: Road, step: int) -> Fraction:
+def cut_each(network: Network, names: Sequence[str], step: int, made: Cut) -> None:
+    """Gives each of these edges an end of its own where others lead to the same node, and it is long enough."""
+    for name in [name for name in names if len(network.ins[network.roads[name].head]) > 1]:
+        road = network.roads[name]
+        if road.time < 2 * cut_time(road, step):
+            made.too_short += 1
+            continue
+        end = free_name(f"{name}_end", network.nodes)
+        network.add_node(Node(end, network.nodes[road.head].x, network.nodes[road.head].y))
+        cut_one(network, name, end, step, made)
+
+
+def cut_time(road: Road, step: int) -> Fraction:
     """The free-flow time in ms of a part of a road that is long enough for a step, rounded up to metres."""
-    link = diagram(road)
+    link = diagram_of(road)
     return Fraction(-(-step * max(link.free_kmh, link.wave_kmh) // 3600) + 1) * 3600 / road.kmh
 
 
 def cut_one(network: Network, name: str, end: str, step: int, made: Cut) -> None:
     """Cuts an edge before its end."""
     road = network.roads[name]
-    node, part = road.head, part_time(road, step)
+    node, part = road.head, cut_time(road, step)
     middle = free_name(f"{name}_before", network.nodes)
     line = network.line(road)
     before, behind = cut_at(line, 1 - float(part / road.time)) if len(line) > 1 else ((), ())

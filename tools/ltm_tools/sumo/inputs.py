@@ -2,25 +2,29 @@
 from __future__ import annotations
 
 import os
-from collections.abc import Iterable, Mapping, Sequence
+from collections.abc import Container, Iterable, Mapping, Sequence
 from dataclasses import dataclass, field, replace
 from fractions import Fraction
 from functools import partial
 from pathlib import Path
 
+from ..demand.route_splits import Links, Route, led_over
+from ..demand.values import quarter_before
+from ..case.background import Background
 from ..errors import Fault
+from ..files import existing
 from ..formats import MINUTE_MS, MOST_DESTINATIONS_ASKED, short_vehicles
-from ..network.demand_files import exists, quarter_before
-from ..network.ends import joined, most_used
-from ..network.importing import check_ends
+from ..network.ends import nearest_kept, most_used
+from ..network.importing import check_ends, destinations_that_fit
 from ..network.network import Network
-from ..network.route_splits import Links, Route, led_over
 from ..network.steps import longest_step
 from .ends import Cut, cut_ends, over_parts
-from .net import Connection, Net, elements, read_net, read_programs
+from .background import background_of
+from .net import Connection, SumoNet, elements, read_net, read_programs
 from .options import SumoOptions
-from .routes import SPACING, Found, Vehicles, read_vehicles
+from .routes import SPACING, FoundVehicles, Vehicles, read_vehicles
 from .ways import Leg, Ways
+from .zones import read_zones
 
 StrPath = str | os.PathLike[str]
 
@@ -29,66 +33,103 @@ StrPath = str | os.PathLike[str]
 class Inputs:
     """What was read, with the routes of vehicles over edges of the net."""
 
-    net: Net
-    found: Found
+    net: SumoNet
+    found: FoundVehicles
     routes: list[Route] = field(default_factory=list)
     turns_before: list[Route] = field(default_factory=list)
     """The routes before edges were cut, where some were."""
     begin_ms: int = 0
+    background: Background = Background()
     notes: list[str] = field(default_factory=list)
 
 
-def end_before_signals(inputs: Inputs, held: dict[str, list[Connection]], options: SumoOptions) -> Cut:
-    """Lets trips end before a signal at the end of their last edge, and tells it."""
+def end_before_signals(
+    inputs: Inputs, held: dict[str, list[Connection]], options: SumoOptions, turned: Container[str]
+) -> Cut:
+    """Lets trips end before a signal at the end of their last edge, or each on its last edge apart from those whose
+    turns are links, and tells it."""
     raw = inputs.net.network
     step = options.fit or options.step or min(longest_step(raw), MINUTE_MS)
-    cut = cut_ends(raw, inputs.routes, set(held), step)
+    each = options.ends == "edge"
+    shared = 0 if each else ends_shared(inputs, turned)
+    cut = cut_ends(raw, inputs.routes, set(held), step, turned if each else None)
     inputs.turns_before = inputs.routes
     inputs.routes = led_over(inputs.routes, partial(over_parts, cut=cut))
-    if cut.exits:
-        inputs.notes.append(f"{len(cut.exits)} edges are cut a step before a signal, so that trips that end there need"
-                            f" not wait for it (--wait-at-ends leaves them whole)")
-    if cut.too_short:
-        inputs.notes.append(f"trips that end on {cut.too_short} edges wait for the signal at their end, as these are"
-                            f" too short to be cut")
+    if shared:
+        inputs.notes.append(
+            f"{short_vehicles(shared)} vehicles end where other edges lead too, and may come there by these (--ends"
+            f" edge gives each edge an end of its own)"
+        )
+    if each and cut.exits:
+        inputs.notes.append(f"{len(cut.exits)} edges at which trips end have an end of their own")
+    elif cut.exits:
+        inputs.notes.append(
+            f"{len(cut.exits)} edges are cut a step before a signal, so that trips that end there need"
+            f" not wait for it (--wait-at-ends leaves them whole)"
+        )
+    if each and cut.too_short:
+        inputs.notes.append(
+            f"trips that end on {cut.too_short} edges end at the node behind, as these are too short to be cut"
+        )
+    elif cut.too_short:
+        inputs.notes.append(
+            f"trips that end on {cut.too_short} edges wait for the signal at their end, as these are"
+            f" too short to be cut"
+        )
     return cut
+
+
+def ends_shared(inputs: Inputs, turned: Container[str]) -> int:
+    """The thousandths of vehicles that end at a node to which several edges lead, apart from those at these nodes."""
+    raw = inputs.net.network
+    heads = ((raw.roads[route.links[-1]].head, route.units) for route in inputs.routes)
+    return sum(units for node, units in heads if len(raw.ins[node]) > 1 and node not in turned)
 
 
 def read_inputs(net_file: StrPath, files: Iterable[StrPath], options: SumoOptions) -> Inputs:
     """Reads all files, and finds the route of each vehicle."""
-    net_path, (vehicles, programs) = exists(net_file), by_kind(net_file, map(exists, files))
-    found = read_vehicles(vehicles)
+    net_path, (vehicles, programs, zones, polygons) = existing(net_file), by_kind(map(existing, files))
+    found = read_vehicles(vehicles, read_zones(zones))
     spacing = options.spacing or found.spacing
     net = read_net(net_path, vehicle_class=options.vehicle_class, headway=options.headway, spacing=spacing)
-    inputs = Inputs(net, found)
+    inputs = Inputs(net, found, background=background_of(net_path, net.unused, polygons, net.drawn))
     if options.spacing is None and spacing != SPACING:
-        inputs.notes.append(f"a standing vehicle takes {float(spacing):g} m in the mean, as the types of vehicles say"
-                            f" by length and minGap (--spacing sets it)")
+        inputs.notes.append(
+            f"a standing vehicle takes {float(spacing):g} m in the mean, as the types of vehicles say"
+            f" by length and minGap (--spacing sets it)"
+        )
     for path in programs:
-        inputs.notes.append(f"{path} has {read_programs(net, path)} programs of signals, which go over those of the"
-                            f" net")
+        inputs.notes.append(
+            f"{path} has {read_programs(net, path)} programs of signals, which go over those of the net"
+        )
+    if found.by_zones:
+        inputs.notes.append(
+            f"{short_vehicles(found.by_zones)} vehicles set out between zones, on edges of these by their weights"
+        )
     set_times(inputs, options)
     find_routes(inputs, options)
     return inputs
 
 
-def by_kind(net_file: StrPath, files: Iterable[Path]) -> tuple[list[Path], list[Path]]:
-    """The files with vehicles, types or routes, and those with programs of signals; a Fault where one has neither."""
-    vehicles, programs = [], []
+def by_kind(files: Iterable[Path]) -> tuple[list[Path], list[Path], list[Path], list[Path]]:
+    """The files with vehicles, types or routes, those with programs of signals, those with zones, and those with
+    polygons; a Fault where one has none of these."""
+    vehicles, programs, zones, polygons = [], [], [], []
     for path in files:
         tags = {element.tag for element in elements(path)}
         if "tlLogic" in tags:
             programs.append(path)
+        if tags & {"taz", "tazs"}:
+            zones.append(path)
+        if tags & {"poly", "polygon"}:
+            polygons.append(path)
         if tags & {"vehicle", "trip", "flow", "vType", "vTypeDistribution", "route", "routeDistribution"}:
             vehicles.append(path)
-        elif tags & {"taz", "tazs"}:
-            raise Fault(f"{path}: this has zones (TAZ), and trips between zones need edges first: duarouter -n"
-                        f" {net_file} --additional-files"
-                        f" {path} --route-files TRIPS -o ROUTES gives them some, and od2trips makes TRIPS of a matrix;"
-                        f" give ROUTES in its place")
-        elif "tlLogic" not in tags:
-            raise Fault(f"{path}: no vehicles, trips, flows, types, routes or programs of signals in it; leave it out")
-    return vehicles, programs
+        elif not tags & {"tlLogic", "taz", "tazs", "poly", "polygon"}:
+            raise Fault(
+                f"{path}: no vehicles, trips, flows, types, routes, zones or programs of signals in it; leave it out"
+            )
+    return vehicles, programs, zones, polygons
 
 
 def set_times(inputs: Inputs, options: SumoOptions) -> None:
@@ -113,7 +154,9 @@ def find_routes(inputs: Inputs, options: SumoOptions) -> None:
     before they are sought."""
     ways, found, net = Ways(inputs.net), inputs.found, inputs.net.network
     if options.destinations is None:
-        check_ends(sure_ends(found.vehicles, ways, net))
+        last = options.horizon or 120
+        most = destinations_that_fit(net, last * MINUTE_MS, options.fit or options.step)
+        check_ends(sure_ends(found.vehicles, ways, net), most)
     trips = [one for one in found.vehicles if not one.whole and all(name in net.roads for name in one.edges)]
     legs = ways.legs(leg for one in trips for leg in zip(one.edges, one.edges[1:]))
     routed = 0
@@ -135,8 +178,9 @@ def driven_or_why(given: Links, edges: Links, ways: Ways) -> tuple[Links, str]:
     """The edges of a route, of those that were given; or why they are none."""
     if not edges or not ways.is_route(edges):
         missing = any(name not in ways.roads for name in given)
-        return (), ("over edges that are not in the net, or not for cars" if missing
-                    else "without a route that is connected")
+        return (), (
+            "over edges that are not in the net, or not for cars" if missing else "without a route that is connected"
+        )
     if ways.roads[edges[0]].tail == ways.roads[edges[-1]].head:
         return (), "that end where they begin"
     return edges, ""
@@ -146,7 +190,7 @@ def counted_routes(inputs: Inputs, options: SumoOptions) -> list[Route]:
     """The routes by which traffic at crossings is counted: those of the case, or of other vehicles."""
     if options.volumes is None:
         return inputs.routes
-    other = Inputs(inputs.net, read_vehicles([exists(options.volumes)]), begin_ms=inputs.begin_ms)
+    other = Inputs(inputs.net, read_vehicles([existing(options.volumes)]), begin_ms=inputs.begin_ms)
     other.found.vehicles = [one for one in other.found.vehicles if one.depart_ms >= inputs.begin_ms]
     find_routes(other, replace(options, destinations=options.destinations or MOST_DESTINATIONS_ASKED))
     inputs.notes += [f"traffic at crossings is counted by {options.volumes}: {len(other.routes)} routes"]
@@ -190,7 +234,7 @@ def fewer_ends(inputs: Inputs, most: int) -> list[Route]:
         end = net.roads[route.links[-1]].head
         units[end] = units.get(end, 0) + route.units
     kept = set(most_used(units, most))
-    near = joined(net, kept, [end for end in units if end not in kept])
+    near = nearest_kept(net, kept, [end for end in units if end not in kept])
     made, moved, time, whole = [], 0, Fraction(0), sum(units.values())
     for route in inputs.routes:
         end = net.roads[route.links[-1]].head
@@ -204,14 +248,17 @@ def fewer_ends(inputs: Inputs, most: int) -> list[Route]:
         moved += route.units
         time += off * route.units
         made.append(Route(links, route.depart_ms, route.units))
-    inputs.notes.append(f"{len(kept)} of {len(units)} destinations are kept; {100 * moved / max(1, whole):.1f} % of the"
-                        f" vehicles end elsewhere,"
-                        f" in the mean {float(time / moved) / 1000 if moved else 0:.0f} s from where they would")
+    inputs.notes.append(
+        f"{len(kept)} of {len(units)} destinations are kept; {100 * moved / max(1, whole):.1f} % of the"
+        f" vehicles end elsewhere,"
+        f" in the mean {float(time / moved) / 1000 if moved else 0:.0f} s from where they would"
+    )
     return made
 
 
-def nearer_end(ways: Ways, links: Sequence[str], kept: set[str],
-               goals: Iterable[str]) -> tuple[tuple[str, ...], Fraction]:
+def nearer_end(
+    ways: Ways, links: Sequence[str], kept: set[str], goals: Iterable[str]
+) -> tuple[tuple[str, ...], Fraction]:
     """A route cut at the last kept node on its way, or driven on to the end of an edge, whichever is less of a change
     in ms."""
     roads = ways.roads

@@ -8,18 +8,20 @@ from __future__ import annotations
 from collections.abc import Iterable, Sequence
 from fractions import Fraction
 
-from ..network.crossings.movements import Held, Movement, Movements, movements_of
-from ..network.crossings.options import MAJOR_GAP, MINOR_GAP
+from ..demand.cycles import Green
 from ..formats import MINUTE_MS
-from ..network.cycles import Green
-from .net import Connection, Net, Program
+from ..network.crossings.movements import Held, Movement, Movements, movements_of
+from ..network.crossings.options import MAJOR_GAP, MINOR_GAP, ROUND_GAP, GapAcceptance
+from .net import Connection, SumoNet, Program
 from .signals import GREEN, OFF, YELLOW, cycle_of
 
 Span = tuple[int, int]
+EQUAL = "="  # the letter of a way where the right comes before the left
 
 
-def movements(net: Net, *, signals: bool, yellow: bool, begin_ms: int) -> Movements:
-    """The turns of a net; with signals how they are held, the case beginning at a time in ms."""
+def movements(net: SumoNet, *, signals: bool, yellow: bool, begin_ms: int, by_kind: bool = True) -> Movements:
+    """The turns of a net; with signals how they are held, the case beginning at a time in ms. `by_kind`, roundabouts
+    and junctions where the right comes first have gaps of their own."""
     ways: dict[tuple[str, str], list[Connection]] = {}
     at: dict[str, list[Connection]] = {}
     roads = net.network.roads
@@ -31,26 +33,31 @@ def movements(net: Net, *, signals: bool, yellow: bool, begin_ms: int) -> Moveme
     for (edge, after), some in ways.items():
         node = roads[edge].head
         program = next((net.programs[way.signal] for way in some if way.signal in net.programs), None)
-        held = by_sign(net, some, at[node]) if program is None else None
+        held = by_sign(net, some, at[node], by_kind) if program is None else None
         if signals and program is not None and cycle_of(program) > 0:
             held = held_by(net, program, some, at[node], yellow, begin_ms)
         made.append(Movement(edge, after, tuple(sorted({way.lane for way in some})), held))
     return movements_of(made, {name: len(lanes) for name, lanes in net.lanes.items()})
 
 
-def priorities(net: Net, way: Connection, others: Iterable[Connection]) -> list[Connection]:
+def priorities(net: SumoNet, way: Connection, others: Iterable[Connection]) -> list[Connection]:
     """The ways over its junction to which a way yields."""
     signs = net.yields.get(net.network.roads[way.edge].head, {}).get(way.request, "")[::-1]
-    return [other for other in others if other.edge != way.edge and 0 <= other.request < len(signs)
-            and signs[other.request] == "1"]
+    return [
+        other
+        for other in others
+        if other.edge != way.edge and 0 <= other.request < len(signs) and signs[other.request] == "1"
+    ]
 
 
-def gives_way(net: Net, way: Connection, others: Iterable[Connection]) -> list[Connection]:
+def gives_way(net: SumoNet, way: Connection, others: Iterable[Connection]) -> list[Connection]:
     """The ways to which a way without a signal yields: none where its letter is a large one."""
     return [] if way.state.isupper() else priorities(net, way, others)
 
 
-def by_sign(net: Net, ways: Sequence[Connection], others: Sequence[Connection]) -> Held | None:
+def by_sign(
+    net: SumoNet, ways: Sequence[Connection], others: Sequence[Connection], by_kind: bool = True
+) -> Held | None:
     """How a turn without a signal yields, each lane for its part; none where it need not."""
     one_each = list({way.lane: way for way in ways}.values())
     foes = {way: gives_way(net, way, others) for way in one_each}
@@ -59,8 +66,21 @@ def by_sign(net: Net, ways: Sequence[Connection], others: Sequence[Connection]) 
         return None
     major = any(not gives_way(net, way, others) for way in others if way.edge == ways[0].edge)
     yielding = Fraction(sum(bool(some) for some in foes.values()), len(foes))
-    return Held(always(1 - yielding), always(yielding), tuple(dict.fromkeys((foe.edge, foe.after) for foe in against)),
-                tuple(dict.fromkeys((foe.edge, foe.lane) for foe in against)), MAJOR_GAP if major else MINOR_GAP)
+    return Held(
+        always(1 - yielding),
+        always(yielding),
+        tuple(dict.fromkeys((foe.edge, foe.after) for foe in against)),
+        tuple(dict.fromkeys((foe.edge, foe.lane) for foe in against)),
+        sign_gap(net, ways[0], against, major) if by_kind else MAJOR_GAP if major else MINOR_GAP,
+    )
+
+
+def sign_gap(net: SumoNet, way: Connection, against: Iterable[Connection], major: bool) -> GapAcceptance:
+    """The gap by which a turn without a signal yields: into a roundabout, from a way of which other turns yield to
+    nobody, or else from one without priority, as where all are equal and the right comes first."""
+    if all(foe.edge in net.circling for foe in against):
+        return ROUND_GAP
+    return MAJOR_GAP if major and way.state != EQUAL else MINOR_GAP
 
 
 def always(share: Fraction) -> tuple[Green, ...]:
@@ -68,8 +88,14 @@ def always(share: Fraction) -> tuple[Green, ...]:
     return (Green(MINUTE_MS, 0, MINUTE_MS, 0, share),) if share else ()
 
 
-def held_by(net: Net, program: Program, ways: Sequence[Connection], others: Sequence[Connection], yellow: bool,
-            begin_ms: int) -> Held:
+def held_by(
+    net: SumoNet,
+    program: Program,
+    ways: Sequence[Connection],
+    others: Sequence[Connection],
+    yellow: bool,
+    begin_ms: int,
+) -> Held:
     """How a program holds a turn: each way of it counts for its part of the turn's lanes. One that is never green has a
     green for none of them."""
     cycle = cycle_of(program)
@@ -79,20 +105,26 @@ def held_by(net: Net, program: Program, ways: Sequence[Connection], others: Sequ
     one_each = list({way.lane: way for way in ways}.values())
     for way in one_each:
         yielding = priorities(net, way, others)
-        for start, end, foes in spans(program, way, yielding, yellow):
+        for start, end, foes in green_spans(program, way, yielding, yellow):
             of = shares[bool(foes)]
             of[start, end] = of.get((start, end), Fraction(0)) + Fraction(1, len(one_each))
             against |= dict.fromkeys(foes)
-    protected, permitted = (tuple(Green(cycle, start, end, offset, share) for (start, end), share in of.items())
-                            for of in shares.values())
+    protected, permitted = (
+        tuple(Green(cycle, start, end, offset, share) for (start, end), share in of.items()) for of in shares.values()
+    )
     if not protected and not permitted:
         protected = (Green(cycle, 0, cycle, offset, Fraction(0)),)
-    return Held(protected, permitted, tuple(dict.fromkeys((foe.edge, foe.after) for foe in against)),
-                tuple(dict.fromkeys((foe.edge, foe.lane) for foe in against)))
+    return Held(
+        protected,
+        permitted,
+        tuple(dict.fromkeys((foe.edge, foe.after) for foe in against)),
+        tuple(dict.fromkeys((foe.edge, foe.lane) for foe in against)),
+    )
 
 
-def spans(program: Program, way: Connection, yielding: Iterable[Connection],
-          yellow: bool) -> list[tuple[int, int, tuple[Connection, ...]]]:
+def green_spans(
+    program: Program, way: Connection, yielding: Iterable[Connection], yellow: bool
+) -> list[tuple[int, int, tuple[Connection, ...]]]:
     """The spans of a cycle (ms) in which a way is green, each with the ways with green to which it yields then; yellow,
     where vehicles go on it, is part of the green before. A way without a signal is always green."""
     if way.signal != program.signal:
@@ -115,5 +147,8 @@ def spans(program: Program, way: Connection, yielding: Iterable[Connection],
 
 def foes_on(program: Program, state: str, yielding: Iterable[Connection]) -> tuple[Connection, ...]:
     """Those of some ways that have green in a phase."""
-    return tuple(way for way in yielding if way.signal == program.signal and 0 <= way.index < len(state)
-                 and state[way.index] in GREEN + OFF)
+    return tuple(
+        way
+        for way in yielding
+        if way.signal == program.signal and 0 <= way.index < len(state) and state[way.index] in GREEN + OFF
+    )

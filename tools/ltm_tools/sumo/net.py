@@ -16,6 +16,7 @@ from pathlib import Path
 from typing import IO
 
 from ..errors import Fault
+from ..case.places import Line
 from ..files import shown
 from ..formats import LEAST_ABOVE_0, exact_or_none, number_rule, whole_of
 from ..network.network import LEAST_M, Network, Node, road_of
@@ -54,7 +55,7 @@ class Program:
 
 
 @dataclass
-class Net:
+class SumoNet:
     """What is read of a net file."""
 
     network: Network = field(default_factory=Network)
@@ -73,6 +74,12 @@ class Net:
     yields: dict[str, dict[int, str]] = field(default_factory=dict)
     """Of each junction and way over it, by number, a sign for each way: 1 where it yields to that one; the last sign is
     of way 0."""
+    circling: set[str] = field(default_factory=set)
+    """The edges of roundabouts."""
+    streets: dict[str, str] = field(default_factory=dict)
+    """The name of the street of each edge that has one."""
+    unused: list[tuple[str, Line]] = field(default_factory=list)
+    """The edges that are left out as not for these vehicles: `road` or `rail`, and their points."""
     drawn: Map = Map()
     """How places of the net become those of the world."""
 
@@ -116,7 +123,7 @@ def elements(path: Path, depth: int = 1) -> Iterator[ElementTree.Element]:
         raise Fault(f"{path}: it cannot be read: {error}; iconv turns it into UTF-8") from None
 
 
-def number(element: ElementTree.Element, name: str, what: str) -> Fraction:
+def number_attribute(element: ElementTree.Element, name: str, what: str) -> Fraction:
     """A number that an attribute has."""
     text = element.get(name, "")
     found = exact_or_none(text)
@@ -125,15 +132,17 @@ def number(element: ElementTree.Element, name: str, what: str) -> Fraction:
     return found
 
 
-def whole(element: ElementTree.Element, name: str, default: int) -> int:
+def whole_attribute(element: ElementTree.Element, name: str, default: int) -> int:
     """A whole number that an attribute has; the default where it is not there."""
     text = element.get(name)
     if text is None:
         return default
     found = whole_of(text.strip().removeprefix("-"))
     if found is None:
-        raise Fault(f"{element.tag} {element.get('id') or element.get('from', '')}: {name} is {shown(text)}, and a"
-                    f" whole number is wanted")
+        raise Fault(
+            f"{element.tag} {element.get('id') or element.get('from', '')}: {name} is {shown(text)}, and a"
+            f" whole number is wanted"
+        )
     return -found if text.strip().startswith("-") else found
 
 
@@ -149,50 +158,77 @@ def may_use(lane: ElementTree.Element, vehicle_class: str) -> bool:
     return True
 
 
-def read_net(path: Path, *, vehicle_class: str, headway: Fraction, spacing: Fraction) -> Net:
+def read_net(path: Path, *, vehicle_class: str, headway: Fraction, spacing: Fraction) -> SumoNet:
     """The network in a net file. A lane takes a vehicle every `headway` seconds and the time to drive `spacing` metres,
     and stores one every `spacing` metres."""
-    net = Net()
+    net = SumoNet()
     for element in elements(path):
         if element.tag == "location":
             net.drawn = map_of(element)
         elif element.tag == "edge":
             read_edge(net, element, vehicle_class, headway, spacing)
         elif element.tag == "junction" and element.get("type") != "internal":
-            x, y = (number(element, axis, f"junction {element.get('id')}") if element.get(axis) else None
-                    for axis in "xy")
-            net.network.add_node(Node(element.get("id", ""), None if x is None else float(x),
-                                      None if y is None else float(y)))
-            net.yields[element.get("id", "")] = {whole(one, "index", -1): one.get("response", "")
-                                                 for one in element.findall("request")}
+            read_junction(net, element)
         elif element.tag == "connection":
             read_connection(net, element)
+        elif element.tag == "roundabout":
+            net.circling.update(element.get("edges", "").split())
         elif element.tag == "tlLogic":
-            read_program(net, element)
+            read_program(net, element, path)
         elif element.tag not in ("net", "type", "request", "roundabout", "param", "prohibition", "junction"):
             if element.tag in ("routes", "nodes", "edges", "additional"):
-                raise Fault(f"{path}: this is no net; its root is {element.tag}. Make one by: netconvert -n NODES -e"
-                            f" EDGES -o NET")
-    if not net.network.roads and not net.left_out:
-        raise Fault(f"{path}: no edges; a net of SUMO is wanted, as netconvert writes it")
-    if not net.network.roads:
-        raise Fault(f"{path}: no edge that a {vehicle_class} may use; --vehicle-class names another")
+                raise Fault(
+                    f"{path}: this is no net; its root is {element.tag}. Make one by: netconvert -n NODES -e"
+                    f" EDGES -o NET"
+                )
+    check_roads(net, path, vehicle_class)
     for program in net.programs.values():
-        check_letters(net, program)
-    net.connections = [way for way in net.connections if way.edge in net.network.roads
-                       and way.after in net.network.roads
-                       and way.lane in net.lanes[way.edge]]
+        check_letters(net, program, path)
+    net.connections = [
+        way
+        for way in net.connections
+        if way.edge in net.network.roads and way.after in net.network.roads and way.lane in net.lanes[way.edge]
+    ]
     for node in [node for node in net.network.nodes if not net.network.ins[node] and not net.network.outs[node]]:
         net.network.drop_node(node)
     return net
 
 
-def leave_out(net: Net, why: str) -> None:
+def read_junction(net: SumoNet, element: ElementTree.Element) -> None:
+    """A junction: its place, and which of its ways yield to which."""
+    name = element.get("id", "")
+    x, y = (number_attribute(element, axis, f"junction {name}") if element.get(axis) else None for axis in "xy")
+    net.network.add_node(Node(name, None if x is None else float(x), None if y is None else float(y)))
+    net.yields[name] = {
+        whole_attribute(one, "index", -1): one.get("response", "") for one in element.findall("request")
+    }
+
+
+def check_roads(net: SumoNet, path: Path, vehicle_class: str) -> None:
+    """A Fault where a net has no edge that these vehicles may use."""
+    if not net.network.roads and not net.left_out:
+        raise Fault(f"{path}: no edges; a net of SUMO is wanted, as netconvert writes it")
+    if not net.network.roads:
+        raise Fault(f"{path}: no edge that a {vehicle_class} may use; --vehicle-class names another")
+
+
+def leave_out(net: SumoNet, why: str) -> None:
     """Counts an edge that is left out."""
     net.left_out[why] = net.left_out.get(why, 0) + 1
 
 
-def read_edge(net: Net, element: ElementTree.Element, vehicle_class: str, headway: Fraction, spacing: Fraction) -> None:
+def keep_unused(net: SumoNet, element: ElementTree.Element) -> None:
+    """Keeps how an edge runs that carries no vehicles, by its own points or those of its first lane."""
+    lane = element.find("lane")
+    line = shape_of(element) or (shape_of(lane) if lane is not None else ())
+    is_rail = any(word in element.get("type", "").lower() for word in ("rail", "tram", "subway"))
+    if len(line) > 1:
+        net.unused.append(("rail" if is_rail else "road", line))
+
+
+def read_edge(
+    net: SumoNet, element: ElementTree.Element, vehicle_class: str, headway: Fraction, spacing: Fraction
+) -> None:
     """The road of an edge, where cars may use it."""
     if element.get("function", "normal") in INNER or element.get("id", "").startswith(":"):
         return
@@ -201,27 +237,39 @@ def read_edge(net: Net, element: ElementTree.Element, vehicle_class: str, headwa
     if not tail or not head:
         return leave_out(net, "without ends")
     if not lanes:
+        keep_unused(net, element)
         return leave_out(net, f"not for a {vehicle_class}")
     if tail == head:
         return leave_out(net, "ending where they begin")
     what = f"edge {name}"
-    metres = sum((number(lane, "length", what) for lane in lanes), Fraction(0)) / len(lanes)
-    speed = sum((number(lane, "speed", what) for lane in lanes), Fraction(0)) / len(lanes)
+    metres = sum((number_attribute(lane, "length", what) for lane in lanes), Fraction(0)) / len(lanes)
+    speed = sum((number_attribute(lane, "speed", what) for lane in lanes), Fraction(0)) / len(lanes)
     if metres <= 0 or speed < LEAST_ABOVE_0:
         return leave_out(net, "without length or speed")
     net.shorter += metres < LEAST_M
     capacity = len(lanes) * 3600 / (headway + spacing / speed)
-    net.network.add(road_of(name, tail, head, metres=metres, kmh=speed * Fraction(18, 5),
-                            jam=1000 / spacing * len(lanes),
-                            capacity=capacity, kind=element.get("type") or element.get("function") or "",
-                            shape=shape_of(element)))
-    net.lanes[name] = [whole(lane, "index", place) for place, lane in enumerate(lanes)]
+    net.network.add(
+        road_of(
+            name,
+            tail,
+            head,
+            metres=metres,
+            kmh=speed * Fraction(18, 5),
+            jam=1000 / spacing * len(lanes),
+            capacity=capacity,
+            kind=element.get("type") or element.get("function") or "",
+            shape=shape_of(element),
+        )
+    )
+    if street := " ".join(element.get("name", "").split()):
+        net.streets[name] = street
+    net.lanes[name] = [whole_attribute(lane, "index", place) for place, lane in enumerate(lanes)]
 
 
-def read_connection(net: Net, element: ElementTree.Element) -> None:
+def read_connection(net: SumoNet, element: ElementTree.Element) -> None:
     """A way from an edge onto another; those within junctions are passed over."""
     edge, after, signal = element.get("from", ""), element.get("to", ""), element.get("tl")
-    lane, index = whole(element, "fromLane", 0), whole(element, "linkIndex", -1)
+    lane, index = whole_attribute(element, "fromLane", 0), whole_attribute(element, "linkIndex", -1)
     if signal is not None:
         net.letters[signal] = max(net.letters.get(signal, 0), index + 1)
     if edge.startswith(":") or after.startswith(":"):
@@ -231,49 +279,55 @@ def read_connection(net: Net, element: ElementTree.Element) -> None:
     net.connections.append(Connection(edge, after, lane, signal, index, request, element.get("state", "")))
 
 
-def read_program(net: Net, element: ElementTree.Element) -> None:
-    """A program of a signal; the last one of a signal counts, as for SUMO."""
+def read_program(net: SumoNet, element: ElementTree.Element, path: Path) -> None:
+    """A program of a signal in a file; the last one of a signal counts, as for SUMO."""
     signal, kind = element.get("id", ""), element.get("type", "static")
     if element.get("programID") == "off" or not element.findall("phase"):
         return
-    what = f"signal {signal}"
-    phases = tuple((nearest_ms(number(phase, "duration", what)), phase.get("state", ""))
-                   for phase in element.findall("phase"))
+    what = f"{path}: signal {signal}"
+    phases = tuple(
+        (nearest_ms(number_attribute(phase, "duration", what)), phase.get("state", ""))
+        for phase in element.findall("phase")
+    )
     if any(length < 0 for length, _ in phases):
         raise Fault(f"{what}: a phase of {min(length for length, _ in phases) / 1000:g} s; a duration is 0 or more")
-    offset = nearest_ms(number(element, "offset", what)) if element.get("offset") else 0
+    offset = nearest_ms(number_attribute(element, "offset", what)) if element.get("offset") else 0
     net.programs[signal] = Program(signal, element.get("programID", ""), kind, offset, phases)
     net.not_fixed.pop(signal, None)
     if kind not in ("static", ""):
         net.not_fixed[signal] = kind
 
 
-def check_letters(net: Net, program: Program) -> None:
+def check_letters(net: SumoNet, program: Program, path: Path) -> None:
     """A Fault where the phases of a program have fewer letters than its signal holds ways, or not all the same number:
     SUMO takes none."""
     ways, counts = net.letters.get(program.signal, 0), sorted({len(state) for _, state in program.phases})
-    what = f"signal {program.signal}, program {program.name}"
+    what = f"{path}: signal {program.signal}, program {program.name}"
     if len(counts) > 1:
-        raise Fault(f"{what}: its phases have {' and '.join(map(str, counts))} letters, and all are to have the same"
-                    f" number, one for each way")
+        raise Fault(
+            f"{what}: its phases have {' and '.join(map(str, counts))} letters, and all are to have the same"
+            f" number, one for each way"
+        )
     if counts[0] < ways:
-        raise Fault(f"{what}: its phases have {counts[0]} letters, and the signal holds {ways} ways: one for each is"
-                    f" wanted")
+        raise Fault(
+            f"{what}: its phases have {counts[0]} letters, and the signal holds {ways} ways: one for each is wanted"
+        )
 
 
-def read_programs(net: Net, path: Path) -> int:
+def read_programs(net: SumoNet, path: Path) -> int:
     """The programs of an additional file, over those of the net; how many there are."""
     known = {way.signal for way in net.connections}
     count = 0
     for element in elements(path):
         if element.tag == "tlLogic":
-            read_program(net, element)
+            read_program(net, element, path)
             if (program := net.programs.get(element.get("id", ""))) is not None:
-                check_letters(net, program)
+                check_letters(net, program, path)
             count += 1
             if element.get("id") not in known:
-                raise Fault(f"{path}: signal {element.get('id')} holds no way of the net; the file belongs to another"
-                            f" net")
+                raise Fault(
+                    f"{path}: signal {element.get('id')} holds no way of the net; the file belongs to another net"
+                )
     return count
 
 

@@ -4,7 +4,7 @@ from __future__ import annotations
 import os
 from dataclasses import dataclass
 from fractions import Fraction
-from typing import ClassVar
+from typing import ClassVar, Literal
 
 from ..network.options import Options
 
@@ -39,5 +39,15 @@ class SumoOptions(Options):
     spacing: Fraction | None = None
     """Metres of a standing vehicle; without it the mean of the types of vehicles, 7.5 where they say nothing."""
 
-    RANGES: ClassVar[dict[str, tuple[int, int | None]]] = {"horizon": (1, None), "slice": (1, None),
-                                                           "demand_slice": (1, None), **Options.RANGES}
+    ends: Literal["node", "edge"] = "node"
+    """Whether a trip ends at the node to which its last edge leads, by whichever edge it comes there, or on that
+    edge."""
+    allow_losses: bool = False
+    """Whether vehicles may be lost that are more than one in a hundred."""
+
+    RANGES: ClassVar[dict[str, tuple[int, int | None]]] = {
+        "horizon": (1, None),
+        "slice": (1, None),
+        "demand_slice": (1, None),
+        **Options.RANGES,
+    }

@@ -18,9 +18,22 @@ from ..errors import Fault
 from ..files import shown
 from ..formats import LEAST_ABOVE_0, LONGEST_SECONDS, UNITS, count_text, exact_or_none, number_rule, whole_of
 from .net import elements
+from .zones import Zones
 
-NOT_ON_ROADS = {"pedestrian", "bicycle", "rail", "rail_urban", "rail_electric", "rail_fast", "tram", "subway", "ship",
-                "aircraft", "scooter", "cable_car"}
+NOT_ON_ROADS = {
+    "pedestrian",
+    "bicycle",
+    "rail",
+    "rail_urban",
+    "rail_electric",
+    "rail_fast",
+    "tram",
+    "subway",
+    "ship",
+    "aircraft",
+    "scooter",
+    "cable_car",
+}
 LENGTH, GAP = Fraction(5), Fraction(5, 2)
 """The metres of a vehicle, and before it where it stands, of a type that says none, as those of SUMO."""
 SPACING = LENGTH + GAP
@@ -40,7 +53,7 @@ class Vehicles(NamedTuple):
 
 
 @dataclass
-class Found:
+class FoundVehicles:
     """What is read of files of vehicles."""
 
     vehicles: list[Vehicles] = field(default_factory=list)
@@ -52,6 +65,9 @@ class Found:
     """The class of vehicles of each type."""
     spacings: dict[str, Fraction] = field(default_factory=dict)
     """The metres of a standing vehicle of each type."""
+    zones: Zones = field(default_factory=Zones)
+    by_zones: int = 0
+    """The thousandths of vehicles that set out between zones."""
     units: int = 0
     metres: Fraction = Fraction(0)
     """The thousandths of vehicles that were read, and the metres that these take standing."""
@@ -65,24 +81,27 @@ class Found:
         """Adds those that set out; a Fault where that is too often."""
         self.vehicles.extend(vehicles)
         if len(self.vehicles) > MOST_DEPARTURES:
-            raise Fault(f"{what}: vehicles set out more than {count_text(MOST_DEPARTURES)} times, which is the most;"
-                        f" take a part of them")
+            raise Fault(
+                f"{what}: vehicles set out more than {count_text(MOST_DEPARTURES)} times, which is the most;"
+                f" take a part of them"
+            )
 
     def leave_out(self, why: str, units: int) -> None:
         """Counts vehicles that are left out."""
         self.left_out[why] = self.left_out.get(why, 0) + units
 
 
-def read_vehicles(paths: list[Path]) -> Found:
-    """The vehicles of some files, in their order; types and routes may stand in another file."""
-    found = Found()
+def read_vehicles(paths: list[Path], zones: Zones | None = None) -> FoundVehicles:
+    """The vehicles of some files, in their order; types and routes may stand in another file. Trips between zones begin
+    and end on edges of these."""
+    found = FoundVehicles(zones=zones or Zones())
     for path in paths:
         for element in elements(path):
             read_element(found, element, str(path))
     return found
 
 
-def read_element(found: Found, element: ElementTree.Element, place: str) -> None:
+def read_element(found: FoundVehicles, element: ElementTree.Element, place: str) -> None:
     """One element of a file: a type, a route, vehicles, a trip or a flow."""
     tag = element.tag
     if tag == "vType":
@@ -103,11 +122,19 @@ def read_element(found: Found, element: ElementTree.Element, place: str) -> None
 def spacing_of(element: ElementTree.Element, place: str) -> Fraction:
     """The metres of a standing vehicle of a type."""
     what = f"{place}: vType {element.get('id', '')}"
-    return sum((exact(element.get(name, ""), what) if element.get(name) else default
-                for name, default in (("length", LENGTH), ("minGap", GAP))), Fraction(0)) or SPACING
+    return (
+        sum(
+            (
+                exact_number(element.get(name, ""), what) if element.get(name) else default
+                for name, default in (("length", LENGTH), ("minGap", GAP))
+            ),
+            Fraction(0),
+        )
+        or SPACING
+    )
 
 
-def read_types(found: Found, element: ElementTree.Element, place: str) -> None:
+def read_types(found: FoundVehicles, element: ElementTree.Element, place: str) -> None:
     """The types of a distribution, which has a class where all have the same one, and the mean of their spacings."""
     types = element.findall("vType")
     for one in types:
@@ -115,7 +142,7 @@ def read_types(found: Found, element: ElementTree.Element, place: str) -> None:
     classes = {one.get("vClass", "passenger") for one in types}
     if len(classes) == 1:
         found.classes[element.get("id", "")] = classes.pop()
-    chances = [exact(one.get("probability", "1"), place) for one in types]
+    chances = [exact_number(one.get("probability", "1"), place) for one in types]
     if sum(chances, Fraction(0)) > 0:
         metres = sum((chance * spacing_of(one, place) for chance, one in zip(chances, types)), Fraction(0))
         found.spacings[element.get("id", "")] = metres / sum(chances, Fraction(0))
@@ -126,7 +153,9 @@ def edges_of(element: ElementTree.Element) -> tuple[str, ...]:
     return tuple(element.get("edges", "").replace(",", " ").split())
 
 
-def distribution(found: Found, element: ElementTree.Element, place: str) -> list[tuple[tuple[str, ...], Fraction]]:
+def distribution(
+    found: FoundVehicles, element: ElementTree.Element, place: str
+) -> list[tuple[tuple[str, ...], Fraction]]:
     """The routes of a distribution with shares that sum to 1; that of the one that was chosen last, where that is
     said."""
     routes: list[tuple[tuple[str, ...], Fraction]] = []
@@ -134,7 +163,7 @@ def distribution(found: Found, element: ElementTree.Element, place: str) -> list
     for position, name in enumerate(names):
         if name not in found.routes:
             raise Fault(f"{place}: route {name} is used before it is known; give the file with it first")
-        chance = exact(chances[position], place) if position < len(chances) else Fraction(1)
+        chance = exact_number(chances[position], place) if position < len(chances) else Fraction(1)
         routes += [(edges, share * chance) for edges, share in found.routes[name]]
     inner = element.findall("route")
     last = element.get("last")
@@ -142,7 +171,7 @@ def distribution(found: Found, element: ElementTree.Element, place: str) -> list
     if chosen is not None and chosen < len(inner):
         return [(edges_of(inner[chosen]), Fraction(1))]
     for route in inner:
-        share = exact(route.get("probability", "1"), place)
+        share = exact_number(route.get("probability", "1"), place)
         if route.get("refId"):
             routes += [(edges, part * share) for edges, part in found.routes.get(route.get("refId", ""), [])]
         else:
@@ -155,7 +184,7 @@ def distribution(found: Found, element: ElementTree.Element, place: str) -> list
     return [(edges, share / whole) for edges, share in routes if share]
 
 
-def read_one(found: Found, element: ElementTree.Element, place: str) -> None:
+def read_one(found: FoundVehicles, element: ElementTree.Element, place: str) -> None:
     """The vehicles of a vehicle, a trip or a flow."""
     what = f"{place}: {element.tag} {element.get('id', '')}"
     kind = found.classes.get(element.get("type", ""), "passenger")
@@ -166,18 +195,41 @@ def read_one(found: Found, element: ElementTree.Element, place: str) -> None:
     if not departures:
         return found.leave_out("that wait for a person, a container or another vehicle", UNITS)
     ways, whole = ways_of(found, element, what)
+    if not ways and found.zones.sources and element.get("fromTaz") and element.get("toTaz"):
+        return read_between_zones(found, element, departures, what)
     if not ways:
-        return found.leave_out("between zones or junctions (duarouter gives them edges)", units)
+        return found.leave_out("between zones or junctions (give the file of zones, TAZ, with it)", units)
     found.units += units
     found.metres += units * found.spacings.get(element.get("type", ""), SPACING)
     if len(ways) == 1:
         found.add((Vehicles(ways[0][0], whole, depart, amount) for depart, amount in departures), what)
     else:
-        found.add((Vehicles(edges, whole, depart, part) for depart, amount in departures
-                   for edges, part in parts_of(amount, ways)), what)
+        found.add(
+            (
+                Vehicles(edges, whole, depart, part)
+                for depart, amount in departures
+                for edges, part in parted_amount(amount, ways)
+            ),
+            what,
+        )
 
 
-def parts_of(amount: int, ways: Sequence[tuple[tuple[str, ...], Fraction]]) -> Iterator[tuple[tuple[str, ...], int]]:
+def read_between_zones(
+    found: FoundVehicles, element: ElementTree.Element, departures: Sequence[tuple[int, int]], what: str
+) -> None:
+    """Vehicles between zones: each takes the edge of its zone that is most behind its share."""
+    via = element.get("via", "").split()
+    for depart, amount in departures:
+        start, end = found.zones.ends(element.get("fromTaz", ""), element.get("toTaz", ""), what)
+        found.add([Vehicles((start, *via, end), False, depart, amount)], what)
+        found.by_zones += amount
+        found.units += amount
+        found.metres += amount * found.spacings.get(element.get("type", ""), SPACING)
+
+
+def parted_amount(
+    amount: int, ways: Sequence[tuple[tuple[str, ...], Fraction]]
+) -> Iterator[tuple[tuple[str, ...], int]]:
     """What of an amount takes each of some ways with shares, where that is any; the last gets what is left."""
     given = 0
     for number, (edges, share) in enumerate(ways):
@@ -187,8 +239,9 @@ def parts_of(amount: int, ways: Sequence[tuple[tuple[str, ...], Fraction]]) -> I
             yield edges, part
 
 
-def ways_of(found: Found, element: ElementTree.Element,
-            what: str) -> tuple[list[tuple[tuple[str, ...], Fraction]], bool]:
+def ways_of(
+    found: FoundVehicles, element: ElementTree.Element, what: str
+) -> tuple[list[tuple[tuple[str, ...], Fraction]], bool]:
     """The edges with shares, and whether they are whole routes; none where its ends are no edges."""
     inner, several = element.find("route"), element.find("routeDistribution")
     if inner is not None:
@@ -219,7 +272,7 @@ def departures_of(element: ElementTree.Element, what: str) -> Iterator[tuple[int
     begin = seconds_of(element.get("begin", "0"), what)
     period, count = element.get("period", ""), element.get("number")
     rate = rate_of(element, period, what)
-    end = end_of(element, begin, rate, count, what)
+    end = flow_end(element, begin, rate, count, what)
     if end - begin > LONGEST_SECONDS:
         raise Fault(f"{what}: it lasts longer than {count_text(LONGEST_SECONDS)} s, and that is the most")
     if count is not None and not (rate is not None and period.startswith("exp")):
@@ -236,26 +289,27 @@ def rate_of(element: ElementTree.Element, period: str, what: str) -> Fraction | 
     """The vehicles a second of a flow, where it has a rate."""
     if period:
         if period.startswith("exp"):
-            return exact(period.removeprefix("exp").strip("()"), what)
-        seconds = exact(period, what)
+            return exact_number(period.removeprefix("exp").strip("()"), what)
+        seconds = exact_number(period, what)
         if seconds < LEAST_ABOVE_0:
             raise Fault(f"{what}: a period of {period}; it is above 0")
         return 1 / seconds
     for name in ("vehsPerHour", "perHour"):
         if element.get(name):
-            return exact(element.get(name, ""), what) / 3600
-    return exact(element.get("probability", ""), what) if element.get("probability") else None
+            return exact_number(element.get(name, ""), what) / 3600
+    return exact_number(element.get("probability", ""), what) if element.get("probability") else None
 
 
-def end_of(element: ElementTree.Element, begin: Fraction, rate: Fraction | None, count: str | None,
-           what: str) -> Fraction:
+def flow_end(
+    element: ElementTree.Element, begin: Fraction, rate: Fraction | None, count: str | None, what: str
+) -> Fraction:
     """The end of a flow in seconds."""
     if element.get("end"):
         end = seconds_of(element.get("end", ""), what)
     elif count is not None and rate:
         end = begin + whole_number(count, what) / rate
     else:
-        raise Fault(f"{what}: it has no end; give one, as end=\"3600\"")
+        raise Fault(f'{what}: it has no end; give one, as end="3600"')
     if end < begin:
         raise Fault(f"{what}: it ends at {float(end):g} s, before it begins")
     return end
@@ -264,8 +318,9 @@ def end_of(element: ElementTree.Element, begin: Fraction, rate: Fraction | None,
 def single(begin: Fraction, end: Fraction, count: int, what: str) -> Iterator[tuple[int, int]]:
     """Single vehicles at even distances from the beginning on; those of one millisecond together."""
     if count > MOST_DEPARTURES:
-        raise Fault(f"{what}: {count_text(count)} vehicles, and at most {count_text(MOST_DEPARTURES)} may set out in"
-                    f" all")
+        raise Fault(
+            f"{what}: {count_text(count)} vehicles, and at most {count_text(MOST_DEPARTURES)} may set out in all"
+        )
     parts = lcm(begin.denominator, end.denominator) * count  # of a second, in which all moments are whole
     first, span = 1000 * int(begin * parts), 1000 * (int((end - begin) * parts) // count if count else 0)
     number = 0
@@ -289,7 +344,7 @@ def by_rate(begin: Fraction, end: Fraction, rate: Fraction) -> Iterator[tuple[in
         given, start = due, stop
 
 
-def exact(text: str, what: str) -> Fraction:
+def exact_number(text: str, what: str) -> Fraction:
     """A number that is 0 or more."""
     value = exact_or_none(text)
     if value is None:
@@ -301,7 +356,7 @@ def exact(text: str, what: str) -> Fraction:
 
 def whole_number(text: str, what: str) -> int:
     """A whole number that is 0 or more."""
-    value = exact(text, what)
+    value = exact_number(text, what)
     if value.denominator != 1:
         raise Fault(f"{what}: {shown(text)} is no whole number")
     return int(value)
@@ -314,5 +369,7 @@ def seconds_of(text: str, what: str) -> Fraction:
         seconds = sum((value * scale for value, scale in zip(reversed(values), (1, 60, 3600, 86_400))), Fraction(0))
         if abs(seconds) <= LONGEST_SECONDS:
             return seconds
-    raise Fault(f"{what}: {shown(text)} is no time; seconds, or H:M:S, are wanted, of at most"
-                f" {count_text(LONGEST_SECONDS)} seconds")
+    raise Fault(
+        f"{what}: {shown(text)} is no time; seconds, or H:M:S, are wanted, of at most"
+        f" {count_text(LONGEST_SECONDS)} seconds"
+    )

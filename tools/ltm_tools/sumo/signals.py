@@ -9,9 +9,9 @@ from __future__ import annotations
 from collections.abc import Iterable, Mapping
 from fractions import Fraction
 
+from ..demand.cycles import Green
 from ..network.crossings.lanes import filled
-from ..network.cycles import Green
-from .net import Connection, Net, Program
+from .net import Connection, SumoNet, Program
 
 GREEN, YELLOW, OFF = "Gg", "yY", "oO"
 
@@ -35,7 +35,7 @@ def cycle_of(program: Program) -> int:
     return sum(length for length, _ in program.phases)
 
 
-def signal_edges(net: Net) -> dict[str, list[Connection]]:
+def signal_edges(net: SumoNet) -> dict[str, list[Connection]]:
     """Of each edge with a way that a program holds, all its ways."""
     held = {way.edge for way in net.connections if way.signal in net.programs}
     ways: dict[str, list[Connection]] = {}
@@ -63,8 +63,9 @@ def shares_of(ways: Iterable[Connection], turns: Mapping[str, int]) -> dict[Conn
     return shares
 
 
-def greens_of(net: Net, ways: list[Connection], turns: Mapping[str, int], begin_ms: int, lanes: int,
-              yellow: bool) -> tuple[Green, ...]:
+def greens_of(
+    net: SumoNet, ways: list[Connection], turns: Mapping[str, int], begin_ms: int, lanes: int, yellow: bool
+) -> tuple[Green, ...]:
     """The greens of an edge by the share of each way; none where it is always green, and one that counts for nothing
     where it never is."""
     shares = shares_of(ways, turns)
@@ -87,8 +88,9 @@ def greens_of(net: Net, ways: list[Connection], turns: Mapping[str, int], begin_
     return greens or (Green(cycle, 0, cycle, offset, Fraction(0)),)
 
 
-def lane_factor(shares: Mapping[Connection, Fraction], spans: Mapping[Connection, list[tuple[int, int]]], cycle: int,
-                lanes: int) -> Fraction:
+def lane_factor(
+    shares: Mapping[Connection, Fraction], spans: Mapping[Connection, list[tuple[int, int]]], cycle: int, lanes: int
+) -> Fraction:
     """By how much less passes in a cycle than the greens by share let, as the first lane to be full holds the others
     back."""
     green = {way: Fraction(sum(end - start for start, end in some), cycle) for way, some in spans.items()}
@@ -97,6 +99,7 @@ def lane_factor(shares: Mapping[Connection, Fraction], spans: Mapping[Connection
     for lane in {way.lane for way in shares}:
         load = sum((shares[way] for way in shares if way.lane == lane), Fraction(0))
         if load:
-            passing.append(sum((shares[way] * green[way] for way in shares if way.lane == lane), Fraction(0)) / load
-                           / lanes / load)
+            passing.append(
+                sum((shares[way] * green[way] for way in shares if way.lane == lane), Fraction(0)) / load / lanes / load
+            )
     return min(Fraction(1), min(passing) / by_share) if by_share else Fraction(1)

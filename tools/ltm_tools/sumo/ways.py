@@ -10,8 +10,8 @@ from collections.abc import Iterable, Mapping, Sequence
 from fractions import Fraction
 from math import lcm
 
-from ..network.passages import strong_parts
-from .net import Net
+from ..demand.passages import strong_parts
+from .net import SumoNet
 
 Leg = tuple[str, str]
 
@@ -20,7 +20,7 @@ class Ways:
     """The turns that are allowed in a net; all turns where the net says none. Edges have numbers in the order of their
     names."""
 
-    def __init__(self, net: Net) -> None:
+    def __init__(self, net: SumoNet) -> None:
         self.roads = net.network.roads
         self.names = sorted(self.roads)
         self.number = {name: number for number, name in enumerate(self.names)}
@@ -31,8 +31,11 @@ class Ways:
         self.after: list[list[int]] = [[] for _ in self.names]
         pairs = {(self.number[way.edge], self.number[way.after]) for way in net.connections}
         if not pairs:
-            pairs = {(self.number[name], self.number[after]) for name, road in self.roads.items()
-                     for after in net.network.outs[road.head]}
+            pairs = {
+                (self.number[name], self.number[after])
+                for name, road in self.roads.items()
+                for after in net.network.outs[road.head]
+            }
         for edge, after in sorted(pairs):
             self.before[after].append(edge)
             self.after[edge].append(after)
@@ -43,7 +46,8 @@ class Ways:
         """Whether each edge begins where the one before it ends; looked up where it was asked before, as of a flow."""
         if edges not in self.asked:
             self.asked[edges] = all(name in self.roads for name in edges) and all(
-                self.roads[name].head == self.roads[after].tail for name, after in zip(edges, edges[1:]))
+                self.roads[name].head == self.roads[after].tail for name, after in zip(edges, edges[1:])
+            )
         return self.asked[edges]
 
     def circling(self) -> dict[str, int]:
@@ -112,8 +116,13 @@ class Ways:
         route = [start]
         while route[-1] != end:
             at = times[route[-1]]
-            route.append(next(number for number in self.after[route[-1]] if number in coming
-                              and at + self.times[number] == times[number]))
+            route.append(
+                next(
+                    number
+                    for number in self.after[route[-1]]
+                    if number in coming and at + self.times[number] == times[number]
+                )
+            )
         return route
 
     def gain(self, start: str, end: str) -> Fraction | None:
@@ -125,8 +134,11 @@ class Ways:
     def leg(self, start: str, end: str) -> list[str]:
         """The least route between two edges, both included."""
         times = self.times_to(end)
-        return [self.names[number] for number in self.back(self.number[start], self.number[end],
-                                                           times)] if self.number[start] in times else []
+        return (
+            [self.names[number] for number in self.back(self.number[start], self.number[end], times)]
+            if self.number[start] in times
+            else []
+        )
 
     def times_to(self, end: str) -> dict[int, int]:
         """The least times from the beginning of each edge to the end of one, kept for the next call."""

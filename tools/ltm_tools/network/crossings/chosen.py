@@ -32,8 +32,11 @@ def chosen(network: Network, movements: Movements, ends: Collection[str], asked:
         if view.is_dead_end(node):
             if isinstance(asked, str) or node in asked:
                 parted.append(node)
-        elif (view.has_turns(node) if not isinstance(asked, str) and node in asked
-              else isinstance(asked, str) and view.is_wanted(node, asked == "all")):
+        elif (
+            view.has_turns(node)
+            if not isinstance(asked, str) and node in asked
+            else isinstance(asked, str) and view.is_wanted(node, asked == "all")
+        ):
             crossings.append(node)
     return Chosen(tuple(crossings), tuple(parted))
 
@@ -75,4 +78,6 @@ class View:
         roads = self.network.roads
         return self.has_turns(node) and any(
             (name, after) not in self.turns and roads[after].head != roads[name].tail
-            for name in self.network.ins[node] for after in self.network.outs[node])
+            for name in self.network.ins[node]
+            for after in self.network.outs[node]
+        )

@@ -36,7 +36,7 @@ def behind_corner(line: Line, metres: float) -> Line:
     return cut_at(line, min(CORNER_M / metres, MOST_CORNER))[1]
 
 
-def beside(line: Sequence[Point], apart: float) -> Line:
+def moved_aside(line: Sequence[Point], apart: float) -> Line:
     """A line moved to its right by so much, and to its left below 0; each point by the direction of what follows it,
     the last by that of what comes before."""
     moved = []
@@ -52,9 +52,13 @@ def corner(start: Point, middle: Point, end: Point) -> Line:
     made = []
     for part in range(1, PARTS):
         share = part / PARTS
-        weights = (1 - share) ** 2, 2 * share * (1 - share), share ** 2
-        made.append((sum(weight * point[0] for weight, point in zip(weights, (start, middle, end))),
-                     sum(weight * point[1] for weight, point in zip(weights, (start, middle, end)))))
+        weights = (1 - share) ** 2, 2 * share * (1 - share), share**2
+        made.append(
+            (
+                sum(weight * point[0] for weight, point in zip(weights, (start, middle, end))),
+                sum(weight * point[1] for weight, point in zip(weights, (start, middle, end))),
+            )
+        )
     return tuple(made)
 
 
@@ -64,7 +68,7 @@ def turn_line(approach: Line, metres: float, node: Point, exit_start: Point, apa
     if len(approach) < 2:
         return ()
     before = cut_at(approach, 1 - min(CORNER_M / metres, 0.5))[0] if metres > 0 else approach
-    lane = beside(before, apart * LANE_M * scale(approach, metres))
+    lane = moved_aside(before, apart * LANE_M * scale(approach, metres))
     return joined([approach[:1], lane, corner(lane[-1], node, exit_start), [exit_start]])
 
 

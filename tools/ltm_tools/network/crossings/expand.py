@@ -11,12 +11,12 @@ from collections.abc import Collection, Mapping
 from dataclasses import dataclass, field, replace
 from fractions import Fraction
 
+from ...demand.route_splits import Links
 from ..arms import free_name
 from ..fit import most_top
 from ..fitting import stretched
 from ..lines import Line, cut_at
-from ..network import LEAST_M, Network, Node, Road, diagram, most_capacity
-from ..route_splits import Links
+from ..network import LEAST_M, Network, Node, Road, diagram_of, most_capacity
 from . import drawing
 from .chosen import Chosen
 from .movements import Movements, Pair
@@ -44,6 +44,10 @@ class Expanded:
     short: int = 0
     """How many approaches are shorter than two links that the step allows."""
 
+    def uncut(self) -> set[Pair]:
+        """The turns that are the whole of their approach, as it leads nowhere else."""
+        return {pair for pair, road in self.links.items() if road == pair[0]}
+
     def route(self, roads: Links) -> Links | None:
         """A route over roads of the source as one over the roads there are now; none where it takes a turn that is
         forbidden."""
@@ -62,13 +66,16 @@ class Expanded:
 @dataclass(frozen=True, kw_only=True)
 class Form:
     """How turns are made: the step that the network is to have, the metres of a turn, the lanes of turns where they are
-    not all that serve it, and the nodes where trips end, and where they begin with each exit open to them."""
+    not all that serve it, the nodes where trips end, and where they begin with each exit open to them, and the most
+    that
+    a lane lets through at a stop line in an hour."""
 
     step: int
     length_m: int
     lanes: Mapping[Pair, Fraction] = field(default_factory=dict)
     ends: Collection[str] = ()
     begins: Collection[str] = ()
+    saturation: Fraction | None = None
 
 
 def expand(network: Network, movements: Movements, chosen: Chosen, form: Form) -> Expanded:
@@ -86,13 +93,19 @@ def expand(network: Network, movements: Movements, chosen: Chosen, form: Form) -
 
 def cut_as_they_are(network: Network, picked: Chosen, step: int) -> Chosen:
     """Of the chosen crossings those before which each road can be cut in two links that a step allows."""
-    return replace(picked, crossings=tuple(node for node in picked.crossings if all(
-        (road := network.roads[name]).time >= 2 * part_time(road, step) for name in network.ins[node])))
+    return replace(
+        picked,
+        crossings=tuple(
+            node
+            for node in picked.crossings
+            if all((road := network.roads[name]).time >= 2 * part_time(road, step) for name in network.ins[node])
+        ),
+    )
 
 
 def part_time(road: Road, step: int) -> Fraction:
     """The free-flow time in ms of a part of a road that is long enough for a step, rounded up to metres."""
-    link = diagram(replace(road, capacity=min(road.capacity, most_top(road), most_capacity(step))))
+    link = diagram_of(replace(road, capacity=min(road.capacity, most_top(road), most_capacity(step))))
     return Fraction(-(-step * max(link.free_kmh, link.wave_kmh) // 3600) + 1) * 3600 / road.kmh
 
 
@@ -109,8 +122,15 @@ def part(network: Network, node: str, made: Expanded) -> None:
 class Crossing:
     """A crossing that is being expanded."""
 
-    def __init__(self, network: Network, movements: Movements, exits: Mapping[str, list[str]], form: Form,
-                 made: Expanded, node: str) -> None:
+    def __init__(
+        self,
+        network: Network,
+        movements: Movements,
+        exits: Mapping[str, list[str]],
+        form: Form,
+        made: Expanded,
+        node: str,
+    ) -> None:
         self.network, self.movements, self.form, self.made, self.node = network, movements, form, made, node
         self.place = network.nodes[node].place
         self.ins = {name: list(exits.get(name, ())) for name in network.ins[node]}
@@ -175,14 +195,24 @@ class Crossing:
     def turn(self, rest: Road, name: str, after: str, start: str, line: Line, apart: float) -> Road:
         """The road of a turn."""
         pair, movement = (name, after), self.movements.turns[name, after]
-        share = self.movements.share(pair, self.form.lanes.get(pair))
-        made = replace(rest, name=free_name(f"{name}__{after}", self.network.roads), tail=start,
-                       head=self.network.roads[after].tail, storage=rest.storage * share,
-                       capacity=min(rest.capacity * share, movement.capacity or rest.capacity * share), kind="turn")
+        share, lanes = self.movements.share(pair, self.form.lanes.get(pair)), self.movements.lanes.get(name) or 1
+        most = share * lanes * movement.through(rest.capacity / lanes, self.form.saturation)
+        made = replace(
+            rest,
+            name=free_name(f"{name}__{after}", self.network.roads),
+            tail=start,
+            head=self.network.roads[after].tail,
+            storage=rest.storage * share,
+            capacity=min(most, movement.capacity or most),
+            kind="turn",
+        )
         made = stretched(made, Fraction(movement.penalty_ms))
         end = self.network.nodes[made.head].place
-        made.shape = (drawing.turn_line(line, float(made.length), self.place, end, apart)[1:-1]
-                      if self.place is not None and end is not None else ())
+        made.shape = (
+            drawing.turn_line(line, float(made.length), self.place, end, apart)[1:-1]
+            if self.place is not None and end is not None
+            else ()
+        )
         self.made.links[pair] = made.name
         return made
 
@@ -198,6 +228,15 @@ class Crossing:
             road = self.network.roads[name]
             own = part_time(road, self.form.step)
             link = free_name(f"{name}_start", self.network.roads)
-            self.network.add(replace(stretched(road, own - road.time), name=link, tail=start, head=road.tail,
-                                     kind="start", parts=(link,), shape=()))
+            self.network.add(
+                replace(
+                    stretched(road, own - road.time),
+                    name=link,
+                    tail=start,
+                    head=road.tail,
+                    kind="start",
+                    parts=(link,),
+                    shape=(),
+                )
+            )
             self.made.starts[name] = link

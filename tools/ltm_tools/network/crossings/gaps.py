@@ -8,13 +8,13 @@ from __future__ import annotations
 import math
 from fractions import Fraction
 
-from .options import Gap
+from .options import GapAcceptance
 
 LEAST_FACTOR = Fraction(3, 100)
 """A turn that is allowed is never shut altogether."""
 
 
-def capacity(flow: float, gap: Gap) -> float:
+def capacity(flow: float, gap: GapAcceptance) -> float:
     """The vehicles a second of a lane that find a gap in a flow of vehicles a second, none of them held up."""
     critical, follow_up = float(gap.critical), float(gap.follow_up)
     if flow * follow_up < 1e-9:
@@ -22,7 +22,7 @@ def capacity(flow: float, gap: Gap) -> float:
     return flow * math.exp(-flow * critical) / -math.expm1(-flow * follow_up)
 
 
-def through_green(flow: float, saturation: float, green: float, cycle: float, gap: Gap) -> float:
+def through_green(flow: float, saturation: float, green: float, cycle: float, gap: GapAcceptance) -> float:
     """The vehicles of a lane that pass in a green in which it yields: first the queue that stood at red drives off,
     then there are gaps, and at the end some go. Flow and saturation are of the traffic with priority, in vehicles a
     second."""
@@ -30,7 +30,7 @@ def through_green(flow: float, saturation: float, green: float, cycle: float, ga
     return (green - min(green, queue)) * capacity(flow, gap) + float(gap.at_end)
 
 
-def factor(flow: float, saturation: float, green: float, cycle: float, lane: float, gap: Gap) -> Fraction:
+def factor(flow: float, saturation: float, green: float, cycle: float, lane: float, gap: GapAcceptance) -> Fraction:
     """The share of what a lane would let pass in a green that it does while it yields, in thousandths; `lane` is its
     saturation in vehicles a second."""
     if green <= 0 or lane <= 0:

@@ -27,8 +27,19 @@ def filled(amount: Fraction, loads: Mapping[int, Fraction]) -> dict[int, Fractio
     return {lane: Fraction(0) for lane in order}
 
 
-def counted_lanes(turns: Iterable[Turn], movements: Movements, volumes: Volumes) -> dict[Pair, Fraction]:
-    """The lanes of turns by the vehicles that were counted on them in their busiest slices."""
+def even_lanes(lanes: Mapping[str, Iterable[int]]) -> dict[str, Fraction]:
+    """The lanes that turns have of those that serve them if each lane is parted evenly."""
+    users: dict[int, int] = {}
+    for of in lanes.values():
+        for lane in of:
+            users[lane] = users.get(lane, 0) + 1
+    return {after: sum((Fraction(1, users[lane]) for lane in of), Fraction(0)) for after, of in lanes.items()}
+
+
+def counted_lanes(turns: Iterable[Turn], movements: Movements, volumes: Volumes, even: bool) -> dict[Pair, Fraction]:
+    """The lanes of turns by the vehicles that were counted on them in their busiest slices; with `even` each has at
+    least
+    an even part of its lanes, so that it has room where routes change."""
     busy = volumes.busy()
     by_approach: dict[str, dict[str, Turn]] = {}
     for turn in turns:
@@ -36,15 +47,21 @@ def counted_lanes(turns: Iterable[Turn], movements: Movements, volumes: Volumes)
     made: dict[Pair, Fraction] = {}
     for approach, some in by_approach.items():
         whole = sum(volumes.whole(turn.link) for turn in some.values())
-        loads = {after: (volumes.whole(turn.link) + UNCOUNTED * max(whole, 1)) / turn.part_of_green(busy)
-                 for after, turn in some.items()}
+        loads = {
+            after: (volumes.whole(turn.link) + UNCOUNTED * max(whole, 1)) / turn.part_of_green(busy)
+            for after, turn in some.items()
+        }
         lanes = {after: movements.turns[approach, after].lanes for after in some}
         if all(lanes.values()):
-            made |= {(approach, after): share for after, share in shared(loads, lanes).items()}
+            least = even_lanes(lanes) if even else {}
+            made |= {
+                (approach, after): max(share, least.get(after, share))
+                for after, share in shared_lanes(loads, lanes).items()
+            }
     return made
 
 
-def shared(loads: Mapping[str, Fraction], lanes: Mapping[str, Iterable[int]]) -> dict[str, Fraction]:
+def shared_lanes(loads: Mapping[str, Fraction], lanes: Mapping[str, Iterable[int]]) -> dict[str, Fraction]:
     """The lanes that turns have of those that serve them, by the time that the vehicles of each take: turns with fewest
     lanes choose first, and each takes the lanes with least on them."""
     served = {after: list(of) for after, of in lanes.items()}
@@ -54,6 +71,8 @@ def shared(loads: Mapping[str, Fraction], lanes: Mapping[str, Iterable[int]]) ->
         taken[after] = filled(loads[after], {lane: level[lane] for lane in served[after]})
         for lane, part in taken[after].items():
             level[lane] += part
-    made = {after: sum((part / level[lane] for lane, part in of.items() if level[lane]), Fraction(0))
-            for after, of in taken.items()}
+    made = {
+        after: sum((part / level[lane] for lane, part in of.items() if level[lane]), Fraction(0))
+        for after, of in taken.items()
+    }
     return {after: max(LEAST_LANES, share).limit_denominator(1000) for after, share in made.items()}

@@ -7,23 +7,22 @@ from fractions import Fraction
 from itertools import groupby
 
 from ...case import Limit, Link, Setup
-from ..cycles import Plan, even_limits, exit_limits
+from ...demand.cycles import Plan
+from ...demand.signal_plans import limits_of_plan
 from .turn import Turn
 from .volumes import Volumes
 
 
-def limits_of(turns: Iterable[Turn], volumes: Volumes, links: Mapping[str, Link], setup: Setup) -> list[Limit]:
+def turn_limits(turns: Iterable[Turn], volumes: Volumes, links: Mapping[str, Link], setup: Setup) -> list[Limit]:
     """The limits of all turns that a signal or a sign holds, and that are not always green."""
     limits: list[Limit] = []
     for turn in turns:
-        for plan in plans_of(turn, volumes, setup):
-            made = even_limits if turn.is_always_green else exit_limits
-            limits += made(plan, capacity=links[turn.link].capacity(setup.step_ms), step_ms=setup.step_ms,
-                           slots=setup.slots)
+        for plan in turn_plans(turn, volumes, setup):
+            limits += limits_of_plan(plan, links[turn.link], setup, turn.is_always_green)
     return limits
 
 
-def plans_of(turn: Turn, volumes: Volumes, setup: Setup) -> list[Plan]:
+def turn_plans(turn: Turn, volumes: Volumes, setup: Setup) -> list[Plan]:
     """The plans of a turn, one for each longest row of slices with the same factor; slices begin with whole steps."""
     if not turn.protected and not turn.permitted:
         return []

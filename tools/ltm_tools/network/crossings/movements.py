@@ -5,8 +5,8 @@ from collections.abc import Iterable, Mapping
 from dataclasses import dataclass
 from fractions import Fraction
 
-from ..cycles import Green
-from .options import Gap
+from ...demand.cycles import Green
+from .options import GapAcceptance
 
 Pair = tuple[str, str]
 """A turn: the link by which it comes to a crossing, its approach, and that on which it goes on, its exit."""
@@ -24,14 +24,15 @@ class Held:
     """These other turns."""
     opposing_lanes: tuple[tuple[str, int], ...] = ()
     """Their lanes, each an approach and a number."""
-    sign: Gap | None = None
+    sign: GapAcceptance | None = None
     """Where no signal but a sign holds it, the gap by which it yields at all times."""
 
     @property
     def always(self) -> bool:
         """Whether it is always green and never yields."""
-        whole = sum((green.share for green in self.protected if green.to_ms - green.from_ms == green.cycle_ms),
-                    Fraction(0))
+        whole = sum(
+            (green.share for green in self.protected if green.to_ms - green.from_ms == green.cycle_ms), Fraction(0)
+        )
         return whole >= 1
 
 
@@ -52,6 +53,12 @@ class Movement:
     def pair(self) -> Pair:
         """Its approach and exit."""
         return self.approach, self.exit
+
+    def through(self, lane: Fraction, saturation: Fraction | None) -> Fraction:
+        """What one of its lanes lets through in an hour: as much as the road carries by `lane`, and at a stop line,
+        where
+        a signal or a sign holds it, at most the saturation."""
+        return lane if self.held is None or saturation is None else min(lane, saturation)
 
     @property
     def is_plain(self) -> bool:

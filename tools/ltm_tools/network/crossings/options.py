@@ -11,7 +11,7 @@ MOST_TURN_M = 1_000
 
 
 @dataclass(frozen=True, slots=True)
-class Gap:
+class GapAcceptance:
     """How a turn that must yield finds its way through the traffic that has priority: the critical gap and the
     follow-up time in seconds, and how many vehicles of a lane still go when a green ends."""
 
@@ -20,11 +20,19 @@ class Gap:
     at_end: Fraction = Fraction(1)
 
 
-MINOR_GAP = Gap(Fraction(13, 2), Fraction(7, 2), Fraction(0))
+MINOR_GAP = GapAcceptance(Fraction(13, 2), Fraction(7, 2), Fraction(0))
 """That of a turn from a way that yields to another at a sign; the Highway Capacity Manual has 6.2 to 7.1 and 3.3 to 4.0
 seconds."""
-MAJOR_GAP = Gap(Fraction(41, 10), Fraction(11, 5), Fraction(0))
+MAJOR_GAP = GapAcceptance(Fraction(41, 10), Fraction(11, 5), Fraction(0))
 """That of a turn without a signal from a way whose other turns yield to nobody, as a left turn."""
+ROUND_GAP = GapAcceptance(Fraction(87, 20), Fraction(57, 20), Fraction(0))
+"""That of a turn into a roundabout: the mean of the two of the Highway Capacity Manual, 4.1 and 2.6, 4.6 and 3.1
+seconds."""
+
+
+SATURATION = Fraction(1800)
+"""Vehicles an hour that a lane lets through at a stop line while it is green: in practice 1,700 to 1,900; the Highway
+Capacity Manual begins with 1,900 and takes off for lane width, lorries, grade, parking and the like."""
 
 
 @dataclass(frozen=True, kw_only=True)
@@ -36,10 +44,17 @@ class CrossingOptions:
     the nodes that are named."""
     length_m: int = 98
     """The metres before a crossing on which a turn has lanes of its own, where the link is that long."""
-    lanes: Literal["full", "counted"] = "full"
-    """Whether a turn has all lanes that serve it, or of each the part of the time that its vehicles take there."""
-    permissive: Gap | Fraction = Gap()
+    lanes: Literal["full", "shared", "counted"] = "full"
+    """Whether a turn has all lanes that serve it, of each the part of the time that its counted vehicles take there, or
+    this and at least an even part of each. Of a source without routes it has all."""
+    saturation: Fraction | None = SATURATION
+    """The most vehicles an hour that a lane lets through at a signal or a sign; None for as many as its road
+    carries."""
+    permissive: GapAcceptance | Fraction = GapAcceptance()
     """How much of its lanes a turn gets where it must yield: by gaps, this one in its green, or a share, 1 for all."""
+    yielding: bool = True
+    """Whether approaches of junctions without lights whose turns are no links let pass what finds gaps, and their
+    vehicles wait for these; of a source without routes they do not."""
     origins: Literal["edge", "node"] = "edge"
     """Whether trips begin on the link with which their route does, or at the node, from which they may take each."""
     slice_minutes: int = 10
@@ -48,5 +63,7 @@ class CrossingOptions:
     def __post_init__(self) -> None:
         if not 1 <= self.length_m <= MOST_TURN_M:
             raise BadOption("turn_length", f"is 1 to {MOST_TURN_M}")
+        if self.saturation is not None and self.saturation <= 0:
+            raise BadOption("saturation", "is above 0")
         if isinstance(self.permissive, Fraction) and not 0 < self.permissive <= 1:
             raise BadOption("permissive", "is above 0 and at most 1")

@@ -5,11 +5,11 @@ from collections.abc import Sequence
 from dataclasses import dataclass, replace
 
 from ...case import Case
+from ...case.roads import Roads
+from ...demand.route_splits import Route
 from ...errors import Fault
-from ..passages import Roads
-from ..route_splits import Route
-from .limits import limits_of
-from .options import Gap
+from .limits import turn_limits
+from .options import GapAcceptance
 from .turn import Turn
 from .turns_file import Turns
 from .volumes import Volumes, volumes_of
@@ -23,13 +23,18 @@ class Recounted:
     turns: Turns
 
 
-def recount(case: Case, turns: Sequence[Turn], routes: Sequence[Route], slice_ms: int,
-            gap: Gap | None = None) -> Recounted:
+def recount(
+    case: Case, turns: Sequence[Turn], routes: Sequence[Route], slice_ms: int, gap: GapAcceptance | None = None
+) -> Recounted:
     """The limits of turns by routes over links of the case; limits of other links stay as they are. A gap stands for
     that of each turn that has one at a signal."""
     if gap is not None:
-        turns = [turn if turn.is_always_green or not isinstance(turn.permissive, Gap) else replace(turn, permissive=gap)
-                 for turn in turns]
+        turns = [
+            turn
+            if turn.is_always_green or not isinstance(turn.permissive, GapAcceptance)
+            else replace(turn, permissive=gap)
+            for turn in turns
+        ]
     if not yielding(turns):
         raise Fault("turns.csv has no turn that yields by gaps, so that volumes change nothing")
     return by_volumes(case, turns, volumes_of(routes, Roads.of(case.links), slice_ms))
@@ -37,7 +42,7 @@ def recount(case: Case, turns: Sequence[Turn], routes: Sequence[Route], slice_ms
 
 def yielding(turns: Sequence[Turn]) -> bool:
     """Whether a turn yields by gaps, so that volumes change something."""
-    return any(turn.permitted and isinstance(turn.permissive, Gap) for turn in turns)
+    return any(turn.permitted and isinstance(turn.permissive, GapAcceptance) for turn in turns)
 
 
 def by_volumes(case: Case, turns: Sequence[Turn], volumes: Volumes) -> Recounted:
@@ -45,5 +50,5 @@ def by_volumes(case: Case, turns: Sequence[Turn], volumes: Volumes) -> Recounted
     links = {link.name: link for link in case.links}
     own = {turn.link for turn in turns if turn.protected or turn.permitted}
     case.signals = [limit for limit in case.signals if limit.link not in own]
-    case.signals += limits_of(turns, volumes, links, case.setup)
+    case.signals += turn_limits(turns, volumes, links, case.setup)
     return Recounted(case, Turns(tuple(turns), volumes))

@@ -15,9 +15,11 @@ def links_told(made: Expanded, links: int, vehicles: Mapping[str, int], whole: b
     if links <= most or links - added > most:
         return []
     nodes = fitting(made.added, vehicles, links - added, most)
-    return [f"{counted(added, 'link')} of {count_text(links)} are of turns, and without asking for more a case has"
-            f" {count_text(MOST_LINKS)}, by asking {count_text(MOST_LINKS_ASKED)}; {count_text(most)} are kept by turns"
-            f" at {counted(len(nodes), 'crossing')} alone: --turns {','.join(nodes)}"]
+    return [
+        f"{counted(added, 'link')} of {count_text(links)} are of turns, and without asking for more a case has"
+        f" {count_text(MOST_LINKS)}, by asking {count_text(MOST_LINKS_ASKED)}; {count_text(most)} are kept by turns"
+        f" at {counted(len(nodes), 'crossing')} alone: --turns {','.join(nodes)}"
+    ]
 
 
 def fitting(added: Mapping[str, int], vehicles: Mapping[str, int], links: int, most: int) -> list[str]:

@@ -1,7 +1,7 @@
 """What the links and nodes of a source have become where crossings have turns."""
 from __future__ import annotations
 
-from ..source import Source, SourceLink
+from ...case.source import Source, SourceLink
 from .expand import Expanded
 from .movements import Pair
 

@@ -12,16 +12,30 @@ from pathlib import Path
 
 from ...case import Link
 from ...case.beside import TURNS_FILE
+from ...demand.cycles import Green, check_green
 from ...errors import Fault
 from ...files import Row, read_table, write_records
 from ...formats import above_0_or_none, exact_or_none, short_vehicles
-from ..cycles import Green, check_green
-from .options import Gap
+from .options import GapAcceptance
 from .turn import Turn
 from .volumes import Volumes
 
-FIELDS = ("approach", "exit", "link", "vehicles", "lanes", "saturation", "cycle", "offset", "greens", "permitted",
-          "opposing", "opposing_saturation", "permissive", "factors")
+FIELDS = (
+    "approach",
+    "exit",
+    "link",
+    "vehicles",
+    "lanes",
+    "saturation",
+    "cycle",
+    "offset",
+    "greens",
+    "permitted",
+    "opposing",
+    "opposing_saturation",
+    "permissive",
+    "factors",
+)
 
 
 @dataclass(frozen=True)
@@ -39,13 +53,27 @@ class Turns:
 def record(turn: Turn, volumes: Volumes) -> tuple[str, ...]:
     """The fields of a turn."""
     greens = turn.protected + turn.permitted
-    cycle = (seconds(greens[0].cycle_ms), seconds(greens[0].offset_ms)) if greens else ("", "")
+    cycle = (green_seconds(greens[0].cycle_ms), green_seconds(greens[0].offset_ms)) if greens else ("", "")
     yields = ("", "", "", "")
     if turn.permitted:
-        yields = (" ".join(turn.opposing), decimal(turn.opposing_saturation), permissive_text(turn.permissive),
-                  " ".join(f"{float(factor):.3f}" for factor in turn.factors(volumes)))
-    return (turn.approach, turn.exit, turn.link, short_vehicles(volumes.whole(turn.link)), decimal(turn.lanes),
-            decimal(turn.saturation), *cycle, spans_text(turn.protected), spans_text(turn.permitted), *yields)
+        yields = (
+            " ".join(turn.opposing),
+            decimal(turn.opposing_saturation),
+            permissive_text(turn.permissive),
+            " ".join(f"{float(factor):.3f}" for factor in turn.factors(volumes)),
+        )
+    return (
+        turn.approach,
+        turn.exit,
+        turn.link,
+        short_vehicles(volumes.whole(turn.link)),
+        decimal(turn.lanes),
+        decimal(turn.saturation),
+        *cycle,
+        spans_text(turn.protected),
+        spans_text(turn.permitted),
+        *yields,
+    )
 
 
 def decimal(number: Fraction) -> str:
@@ -53,25 +81,27 @@ def decimal(number: Fraction) -> str:
     return short_vehicles(int(number * 1000))
 
 
-def seconds(ms: int) -> str:
+def green_seconds(ms: int) -> str:
     """Milliseconds as seconds."""
     return short_vehicles(ms)
 
 
 def spans_text(greens: Iterable[Green]) -> str:
     """Greens in seconds of the cycle, as `0-42 50-60*1/2`, with the share of the lanes where it is not 1."""
-    return " ".join(f"{seconds(green.from_ms)}-{seconds(green.to_ms)}" + (f"*{green.share}" if green.share != 1 else "")
-                    for green in greens)
+    return " ".join(
+        f"{green_seconds(green.from_ms)}-{green_seconds(green.to_ms)}" + (f"*{green.share}" if green.share != 1 else "")
+        for green in greens
+    )
 
 
-def permissive_text(permissive: Gap | Fraction) -> str:
+def permissive_text(permissive: GapAcceptance | Fraction) -> str:
     """A gap as its three numbers, or a share."""
     if isinstance(permissive, Fraction):
         return str(permissive)
     return " ".join(map(decimal, (permissive.critical, permissive.follow_up, permissive.at_end)))
 
 
-def read(folder: str | os.PathLike[str], links: Mapping[str, Link]) -> list[Turn]:
+def read_turns(folder: str | os.PathLike[str], links: Mapping[str, Link]) -> list[Turn]:
     """The turns of a case; a Fault where it has none."""
     path = Path(folder) / TURNS_FILE
     if not path.exists():
@@ -88,15 +118,22 @@ def turn_of(row: Row, links: Mapping[str, Link]) -> Turn:
     """A row of the file."""
     if row.text("link") not in links:
         raise row.fault("link", "it is no link of the case")
-    greens = {name: greens_of(row, name) for name in ("greens", "permitted")}
-    return Turn(approach=row.text("approach"), exit=row.text("exit"), link=row.text("link"), lanes=row.number("lanes"),
-                saturation=row.number("saturation"), protected=greens["greens"], permitted=greens["permitted"],
-                opposing=tuple(row.text("opposing", "").split()),
-                opposing_saturation=row.number("opposing_saturation", 0),
-                permissive=permissive_of(row) if greens["permitted"] else Gap())
+    greens = {name: greens_in(row, name) for name in ("greens", "permitted")}
+    return Turn(
+        approach=row.text("approach"),
+        exit=row.text("exit"),
+        link=row.text("link"),
+        lanes=row.number("lanes"),
+        saturation=row.number("saturation"),
+        protected=greens["greens"],
+        permitted=greens["permitted"],
+        opposing=tuple(row.text("opposing", "").split()),
+        opposing_saturation=row.number("opposing_saturation", 0),
+        permissive=permissive_of(row) if greens["permitted"] else GapAcceptance(),
+    )
 
 
-def greens_of(row: Row, name: str) -> tuple[Green, ...]:
+def greens_in(row: Row, name: str) -> tuple[Green, ...]:
     """The greens of a field."""
     made = []
     for text in row.text(name, "").split():
@@ -105,10 +142,15 @@ def greens_of(row: Row, name: str) -> tuple[Green, ...]:
         numbers = [exact_or_none(part) for part in (start, end)]
         part = Fraction(0) if share == "0" else share_or_none(share) if share else Fraction(1)
         if None in numbers or part is None:
-            raise row.fault(name, "greens are wanted as 0-42 50-60*1/2, in seconds of the cycle, with the share of the"
-                            " lanes that have them")
-        cycle, offset, *times = (int(number * 1000) for number in (row.number("cycle"), row.number("offset", 0),
-                                                                   *(one for one in numbers if one is not None)))
+            raise row.fault(
+                name,
+                "greens are wanted as 0-42 50-60*1/2, in seconds of the cycle, with the share of the"
+                " lanes that have them",
+            )
+        cycle, offset, *times = (
+            int(number * 1000)
+            for number in (row.number("cycle"), row.number("offset", 0), *(one for one in numbers if one is not None))
+        )
         green = Green(cycle, times[0], times[1], offset, part)
         check_green(row.text("link"), green)
         made.append(green)
@@ -121,7 +163,7 @@ def share_or_none(text: str) -> Fraction | None:
     return share if share is not None and share <= 1 else None
 
 
-def permissive_of(row: Row) -> Gap | Fraction:
+def permissive_of(row: Row) -> GapAcceptance | Fraction:
     """What a turn that yields goes by."""
     texts = row.text("permissive").split()
     share = share_or_none(texts[0]) if len(texts) == 1 else None
@@ -133,13 +175,15 @@ def permissive_of(row: Row) -> Gap | Fraction:
     return gap
 
 
-GAP_RULE = ("a share above 0 and at most 1 is wanted, or a critical gap and a follow-up time above 0 in seconds, and"
-            " how many vehicles of a lane go when a green ends")
+GAP_RULE = (
+    "a share above 0 and at most 1 is wanted, or a critical gap and a follow-up time above 0 in seconds, and"
+    " how many vehicles of a lane go when a green ends"
+)
 
 
-def gap_or_none(texts: Sequence[str]) -> Gap | None:
+def gap_or_none(texts: Sequence[str]) -> GapAcceptance | None:
     """The gap of three numbers, or none where these are not such."""
     numbers = [number for text in texts if (number := exact_or_none(text)) is not None]
     if len(numbers) != 3 or len(texts) != 3 or numbers[0] <= 0 or numbers[1] <= 0 or numbers[2] < 0:
         return None
-    return Gap(*numbers)
+    return GapAcceptance(*numbers)

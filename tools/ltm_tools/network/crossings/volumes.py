@@ -5,9 +5,9 @@ from collections.abc import Iterable, Mapping
 from dataclasses import dataclass, field
 from fractions import Fraction
 
+from ...case.roads import Roads
+from ...demand.route_splits import RouteDepartures, Route, by_links
 from ...formats import UNITS
-from ..passages import Roads
-from ..route_splits import Departures, Route, by_links
 from .movements import Pair
 
 
@@ -20,7 +20,7 @@ class Volumes:
     slices: int = 1
     """As many as have vehicles."""
 
-    def add(self, link: str, departures: Departures, later_ms: int) -> None:
+    def add(self, link: str, departures: RouteDepartures, later_ms: int) -> None:
         """Counts vehicles that come to the end of a link so much later than they set out."""
         of = self.counts.setdefault(link, {})
         departures.add_to(of, later_ms, self.slice_ms)
@@ -33,8 +33,10 @@ class Volumes:
 
     def busy(self) -> Volumes:
         """One slice, in which each link has the mean of the two slices in which it has most."""
-        return Volumes(self.slice_ms, {link: {0: sum(most := sorted(of.values())[-2:]) // len(most)}
-                                       for link, of in self.counts.items()})
+        return Volumes(
+            self.slice_ms,
+            {link: {0: sum(most := sorted(of.values())[-2:]) // len(most)} for link, of in self.counts.items()},
+        )
 
     def whole(self, link: str) -> int:
         """The thousandths of vehicles of a link."""
@@ -43,10 +45,10 @@ class Volumes:
 
 def volumes_of(routes: Iterable[Route], roads: Roads, slice_ms: int) -> Volumes:
     """The vehicles of routes over links of a case."""
-    return counted(routes, {name: link.free_ms for name, link in roads.links.items()}, slice_ms)
+    return counted_volumes(routes, {name: link.free_ms for name, link in roads.links.items()}, slice_ms)
 
 
-def counted(routes: Iterable[Route], times: Mapping[str, int], slice_ms: int) -> Volumes:
+def counted_volumes(routes: Iterable[Route], times: Mapping[str, int], slice_ms: int) -> Volumes:
     """The vehicles of routes, by the free-flow times of links in ms."""
     made = Volumes(slice_ms)
     for links, departures in by_links(routes).items():
@@ -57,8 +59,9 @@ def counted(routes: Iterable[Route], times: Mapping[str, int], slice_ms: int) ->
     return made
 
 
-def turns_counted(routes: Iterable[Route], times: Mapping[str, Fraction], slice_ms: int,
-                  names: Mapping[Pair, str]) -> Volumes:
+def turns_counted(
+    routes: Iterable[Route], times: Mapping[str, Fraction], slice_ms: int, names: Mapping[Pair, str]
+) -> Volumes:
     """The same of turns by the names that they have, of routes over links of a source."""
     made = Volumes(slice_ms)
     for links, departures in by_links(routes).items():

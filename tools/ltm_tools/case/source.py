@@ -7,16 +7,16 @@ from __future__ import annotations
 
 import os
 from collections import deque
-from collections.abc import Iterable, Sequence
+from collections.abc import Iterable, Mapping, Sequence
 from dataclasses import dataclass, field, replace
 from pathlib import Path
 
-from ..case import Link
-from ..case.beside import LINKS_FILE, NODES_FILE
 from ..errors import Fault
 from ..files import read_table, write_text
 from ..formats import record_text
-from .passages import Roads
+from .beside import LINKS_FILE, NODES_FILE
+from .roads import Roads
+from .rows import Link
 
 
 @dataclass(frozen=True, slots=True)
@@ -55,20 +55,30 @@ class Source:
         path = Path(folder)
         if (path / LINKS_FILE).exists():
             told = read_links(path / LINKS_FILE, roads)
-            own = {name: link for name, link in made.links.items()
-                   if name in told and told[name].link != name}  # a name that is both is the case's own
+            own = {
+                name: link for name, link in made.links.items() if name in told and told[name].link != name
+            }  # a name that is both is the case's own
             made.between = frozenset(made.links).difference(own, (link.link or "" for link in told.values()))
             made.links = {**made.links, **told, **own}
-            made.nodes |= {row.text("source"): node for row in read_table(path / NODES_FILE, ("source", "node"))
-                           if (node := row.text("node")) in made.nodes}
+            made.nodes |= {
+                row.text("source"): node
+                for row in read_table(path / NODES_FILE, ("source", "node"))
+                if (node := row.text("node")) in made.nodes
+            }
         return made
 
     def write(self, folder: str | os.PathLike[str]) -> None:
         """Writes the two files beside a case; a link with turns has a row for each, behind its own."""
-        links = [("source", "from", "to", "link"), *((name, link.tail, link.head, part) for name, link
-                                                     in self.links.items() for part in (link.link or "", *link.turns))]
-        write_text(Path(folder) / LINKS_FILE, lines_of(links))
-        write_text(Path(folder) / NODES_FILE, lines_of([("source", "node"), *self.nodes.items()]))
+        links = [
+            ("source", "from", "to", "link"),
+            *(
+                (name, link.tail, link.head, part)
+                for name, link in self.links.items()
+                for part in (link.link or "", *link.turns)
+            ),
+        ]
+        write_text(Path(folder) / LINKS_FILE, quoted_lines(links))
+        write_text(Path(folder) / NODES_FILE, quoted_lines([("source", "node"), *self.nodes.items()]))
 
     def node(self, name: str) -> str:
         """The node of the case for a node of the source."""
@@ -181,10 +191,11 @@ def path_named(folder: str | os.PathLike[str], links: Iterable[Link], names: Seq
 def is_path(roads: Roads, names: Sequence[str]) -> bool:
     """Whether these are links of a case, each of which begins where the one before it ends."""
     return all(name in roads.links for name in names) and all(
-        roads.links[name].head == roads.links[after].tail for name, after in zip(names, names[1:]))
+        roads.links[name].head == roads.links[after].tail for name, after in zip(names, names[1:])
+    )
 
 
-def parts_of(folder: str | os.PathLike[str], links: Iterable[Link]) -> dict[str, list[str]]:
+def parts_of_links(folder: str | os.PathLike[str], links: Iterable[Link]) -> dict[str, list[str]]:
     """The links of the source, called otherwise, that have become part of each link of a case."""
     parts: dict[str, list[str]] = {}
     for name, link in Source.read(folder, Roads.of(links)).links.items() if has_source(folder) else ():
@@ -200,11 +211,30 @@ def approaches_of(folder: str | os.PathLike[str], links: Iterable[Link]) -> dict
     return {name: link.all_links for name, link in Source.read(folder, Roads.of(links)).links.items() if link.turns}
 
 
+def approach_heads(folder: str | os.PathLike[str], links: Iterable[Link]) -> dict[str, str]:
+    """The nodes of the source at which its links end that were cut before a crossing."""
+    if not has_source(folder):
+        return {}
+    return {name: link.head for name, link in Source.read(folder, Roads.of(links)).links.items() if link.turns}
+
+
+def links_or_approaches(
+    folder: str | os.PathLike[str], links: Iterable[Link], names: Sequence[str], approaches: Mapping[str, object]
+) -> list[str]:
+    """Links of a case by these names, its own or those of its source; a name of an approach stays."""
+    own = list(links)
+    found = [name if name in approaches else links_named(folder, own, [name])[0] for name in names]
+    for name in found:
+        if name not in approaches and all(link.name != name for link in own):
+            raise Fault(f"{name} is no link of the case, nor of its source")
+    return found
+
+
 def has_source(folder: str | os.PathLike[str]) -> bool:
     """Whether the folder of a case says what has become of a source's links."""
     return os.path.exists(os.path.join(folder, LINKS_FILE))
 
 
-def lines_of(rows: Iterable[Sequence[str]]) -> str:
+def quoted_lines(rows: Iterable[Sequence[str]]) -> str:
     """Records with quotes where a field needs them, a line each."""
     return "".join(record_text(row) + "\n" for row in rows)

@@ -5,19 +5,21 @@ from __future__ import annotations
 import os
 from dataclasses import dataclass
 
+from ..case.roads import Roads
+from ..case.source import Source
 from ..errors import Fault
-from ..files import Row
+from ..files import Row, existing
 from ..formats import clock_text, short_vehicles
 from ..tables import Reading, read
-from .demand_files import exists, moment_ms, quarter_before, whole_units
-from .passages import Roads
 from .route_splits import Route
-from .source import Source
+from .values import moment_ms, quarter_before, whole_units
 
-NAMES = {"links": ("link_sequence", "edges", "link_ids", "path", "route", "links_sequence"),
-         "nodes": ("node_sequence", "node_ids", "path_nodes"),
-         "depart": ("departure", "departure_time", "depart_time", "time", "start", "begin"),
-         "vehicles": ("volume", "count", "number", "flow", "trips")}
+NAMES = {
+    "links": ("link_sequence", "edges", "link_ids", "path", "route", "links_sequence"),
+    "nodes": ("node_sequence", "node_ids", "path_nodes"),
+    "depart": ("departure", "departure_time", "depart_time", "time", "start", "begin"),
+    "vehicles": ("volume", "count", "number", "flow", "trips"),
+}
 
 
 @dataclass(frozen=True)
@@ -30,11 +32,18 @@ class CountedRoutes:
     start_ms: int
 
 
-def read_counted(path: str | os.PathLike[str], roads: Roads, source: Source, *, horizon_ms: int,
-                 start_ms: int | None = None, reading: Reading = Reading()) -> CountedRoutes:
+def read_counted(
+    path: str | os.PathLike[str],
+    roads: Roads,
+    source: Source,
+    *,
+    horizon_ms: int,
+    start_ms: int | None = None,
+    reading: Reading = Reading(),
+) -> CountedRoutes:
     """The routes of a table that set out within the horizon; without a start slot 0 begins with the quarter of an hour
     before the first one."""
-    table = read(exists(path), (), NAMES, reading)
+    table = read(existing(path), (), NAMES, reading)
     if not {"links", "nodes"} & set(table.fields):
         raise Fault(f"{path}: no field links or nodes in the header; it has {', '.join(table.fields)}")
     times = [moment_ms(row, "depart") if row.text("depart", "") else 0 for row in table.rows]
@@ -51,8 +60,11 @@ def read_counted(path: str | os.PathLike[str], roads: Roads, source: Source, *, 
         else:
             routes.append(Route(links, time - start, units))
     notes = [*table.notes, f"slot 0 begins at {clock_text(start)}"]
-    notes += [f"{short_vehicles(units)} vehicles {why} and are left out" for units, why in
-              ((early, "set out before it, or after the last slot,"), (inner, "end where they begin")) if units]
+    notes += [
+        f"{short_vehicles(units)} vehicles {why} and are left out"
+        for units, why in ((early, "set out before it, or after the last slot,"), (inner, "end where they begin"))
+        if units
+    ]
     if not routes:
         raise Fault(f"{path}: no route that sets out within the slots of the case; look at --start")
     return CountedRoutes(routes, notes, start)
@@ -68,8 +80,8 @@ def links_by_nodes(source: Source) -> dict[tuple[str, str], str]:
 
 def route_of(row: Row, roads: Roads, source: Source, by_nodes: dict[tuple[str, str], str]) -> tuple[str, ...]:
     """The links of the case on a counted route."""
-    names = words_of(row.text("links", ""))
-    nodes = words_of(row.text("nodes", ""))
+    names = names_of(row.text("links", ""))
+    nodes = names_of(row.text("nodes", ""))
     if not names:
         for pair in zip(nodes, nodes[1:]):
             if pair not in by_nodes:
@@ -81,6 +93,6 @@ def route_of(row: Row, roads: Roads, source: Source, by_nodes: dict[tuple[str, s
         raise Fault(f"{row.place}: {fault}") from None
 
 
-def words_of(text: str) -> list[str]:
+def names_of(text: str) -> list[str]:
     """Names with blanks, semicolons or commas between."""
     return text.replace(";", " ").replace(",", " ").split()

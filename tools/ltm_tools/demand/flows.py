@@ -34,8 +34,9 @@ def node_order(heads: Mapping[str, str], shares: Shares) -> list[str]:
     return list(sorter.static_order())
 
 
-def link_flows(heads: Mapping[str, str], shares: Shares, amounts: Mapping[str, float],
-               order: Iterable[str]) -> dict[str, float]:
+def link_flows(
+    heads: Mapping[str, str], shares: Shares, amounts: Mapping[str, float], order: Iterable[str]
+) -> dict[str, float]:
     """The vehicles on each link toward a destination, for amounts by origin."""
     at_node: dict[str, float] = dict(amounts)
     flows: dict[str, float] = {}
@@ -58,8 +59,9 @@ def amounts_by_destination(demand: Iterable[Demand]) -> dict[str, dict[str, floa
     return amounts
 
 
-def turn_shares(links: Iterable[Link], demand: Iterable[Demand],
-                splits: Iterable[Split]) -> dict[str, dict[str, float]]:
+def turn_shares(
+    links: Iterable[Link], demand: Iterable[Demand], splits: Iterable[Split]
+) -> dict[str, dict[str, float]]:
     """Of each link the vehicles that go on by each link, over all destinations."""
     heads = {link.name: link.head for link in links}
     rows = list(splits)

@@ -7,41 +7,10 @@ ones, and no others.
 """
 from __future__ import annotations
 
-import functools
 from collections.abc import Iterable, Mapping
-from dataclasses import dataclass, field
 
-from ..case import Link
+from ..case.roads import Roads
 from ..errors import Fault
-from .least import least
-
-
-@dataclass
-class Roads:
-    """The links of a case by name and by node, with free-flow times in ms."""
-
-    links: dict[str, Link]
-    outs: dict[str, list[str]] = field(default_factory=dict)
-    ins: dict[str, list[str]] = field(default_factory=dict)
-
-    @classmethod
-    def of(cls, links: Iterable[Link]) -> Roads:
-        """The roads of some links."""
-        made = cls({link.name: link for link in links})
-        for link in made.links.values():
-            made.outs.setdefault(link.tail, []).append(link.name)
-            made.ins.setdefault(link.head, []).append(link.name)
-        return made
-
-    @functools.cached_property
-    def before(self) -> dict[str, list[tuple[str, int]]]:
-        """Of each node that a link leads to the nodes before it, and the free-flow times from them."""
-        return {node: [(self.links[name].tail, self.links[name].free_ms) for name in names]
-                for node, names in self.ins.items()}
-
-    def least_times(self, destination: str) -> dict[str, int]:
-        """The least free-flow time in ms to a destination, from each node that has a route to it."""
-        return least(destination, 0, lambda node: self.before.get(node, ()))
 
 
 def strong_parts(nodes: Iterable[str], after: Mapping[str, Iterable[str]]) -> list[set[str]]:
@@ -88,8 +57,9 @@ class Passages:
     def __init__(self, roads: Roads, destination: str, counts: Mapping[str, int], origins: Iterable[str]) -> None:
         self.roads, self.destination = roads, destination
         self.times = roads.least_times(destination)
-        self.counts = {name: count for name, count in counts.items() if count > 0
-                       and roads.links[name].tail != destination}
+        self.counts = {
+            name: count for name, count in counts.items() if count > 0 and roads.links[name].tail != destination
+        }
         self.origins = [origin for origin in origins if origin != destination]
         self.cut: dict[str, int] = {}
         self.filled: set[str] = set()
@@ -136,8 +106,9 @@ class Passages:
     def least_link(self, node: str) -> str:
         """The first link of a least route from a node."""
         if node not in self.times:
-            raise Fault(f"no route leads from node {node} to node {self.destination}; leave that demand out, or add a"
-                        f" link")
+            raise Fault(
+                f"no route leads from node {node} to node {self.destination}; leave that demand out, or add a link"
+            )
         leading = [name for name in self.roads.outs[node] if self.roads.links[name].head in self.times]
         return min(leading, key=lambda name: self.roads.links[name].free_ms + self.times[self.roads.links[name].head])
 
@@ -148,8 +119,9 @@ class Passages:
 
     def cut_in(self, part: set[str]) -> None:
         """Cuts links that lead away within a set, and takes back the heaviest ones that close no circle."""
-        inner = [name for name in self.counts if self.roads.links[name].tail in part
-                 and self.roads.links[name].head in part]
+        inner = [
+            name for name in self.counts if self.roads.links[name].tail in part and self.roads.links[name].head in part
+        ]
         away = sorted((name for name in inner if self.leads_away(name)), key=lambda name: (-self.counts[name], name))
         taken = {name: self.counts.pop(name) for name in away}
         after = self.after()

@@ -5,6 +5,7 @@ part. What is rounded off is carried on, so that over any time a link loses less
 """
 from __future__ import annotations
 
+import math
 from collections.abc import Iterator, Mapping, Sequence
 from dataclasses import dataclass
 from fractions import Fraction
@@ -12,7 +13,8 @@ from math import lcm
 
 from ..case import Limit
 from ..errors import Fault
-from ..formats import MOST_SLOT_UNITS
+from ..formats import MINUTE_MS, MOST_SLOT_UNITS
+
 
 @dataclass(frozen=True, slots=True)
 class Green:
@@ -47,13 +49,15 @@ def check_green(link: str, green: Green) -> None:
     if green.cycle_ms < 1:
         raise Fault(f"link {link}: a cycle of {green.cycle_ms} ms; a cycle is above 0")
     if not 0 <= green.from_ms < green.to_ms <= green.cycle_ms:
-        raise Fault(f"link {link}: a green from {green.from_ms} to {green.to_ms} ms in a cycle of {green.cycle_ms} ms;"
-                    " it begins before it ends, and lies in the cycle: give one over the cycle's end as two")
+        raise Fault(
+            f"link {link}: a green from {green.from_ms} to {green.to_ms} ms in a cycle of {green.cycle_ms} ms;"
+            " it begins before it ends, and lies in the cycle: give one over the cycle's end as two"
+        )
 
 
-def exit_limits(plan: Plan, *, capacity: int, step_ms: int, slots: int) -> list[Limit]:
-    """The exit limits of a plan, for a link that takes a capacity (thousandths) in a slot; spans of slots with the same
-    limit are one. A slot that is green as a whole has none."""
+def exit_limits(plan: Plan, *, capacity: int | Fraction, step_ms: int, slots: int) -> list[Limit]:
+    """The exit limits of a plan, for a link that takes a capacity in a slot (thousandths, and a part of one too where
+    the case carries it); spans of slots with the same limit are one. A slot that is green as a whole has none."""
     limits: list[Limit] = []
     first = last = units = -1
     let = Let(plan, capacity, step_ms)
@@ -68,10 +72,11 @@ def exit_limits(plan: Plan, *, capacity: int, step_ms: int, slots: int) -> list[
 
 class Let:
     """What a plan lets pass, in whole numbers, of a link that takes a capacity in a step: green times count in parts of
-    a millisecond, as many as make the shares of all greens whole."""
+    a millisecond, as many as make the shares of all greens whole; what passes is `capacity` over `of`."""
 
-    def __init__(self, plan: Plan, capacity: int, step_ms: int) -> None:
-        self.plan, self.capacity, self.step_ms = plan, capacity, step_ms
+    def __init__(self, plan: Plan, capacity: int | Fraction, step_ms: int) -> None:
+        self.plan, self.step_ms = plan, step_ms
+        self.capacity, self.of = Fraction(capacity).as_integer_ratio()
         self.parts = lcm(*(green.share.denominator for green in plan.greens))
         self.shares = [(green, int(green.share * self.parts)) for green in plan.greens]
         self.cycle = lcm(*(green.cycle_ms for green in plan.greens))
@@ -94,7 +99,7 @@ class Let:
         """The slots from one on up to another that are not green as a whole, and what passes in each; those in which
         nothing does together, where cycles come round with the slots."""
         times = range(0, lcm(self.cycle, self.step_ms), self.step_ms)
-        whole, begin = self.parts * self.step_ms, first
+        whole, begin = self.parts * self.step_ms * self.of, first
         if self.comes_round(times):
             runs, stop = self.runs(first, len(times)), min(last, self.plan.end_ms // self.step_ms)
             of_round, more = self.by(times.stop) - self.by(0), 0
@@ -113,9 +118,13 @@ class Let:
         """Whether the plan begins with a slot, lasts until cycles do so again, with slots at `times` behind the first,
         and at no time lets more pass than the link takes."""
         start = self.plan.start_ms
-        return (start >= 0 and start % self.step_ms == 0 and times.stop <= self.plan.end_ms - start
-                and self.of_cycle <= self.parts * self.cycle
-                and all(self.by(start + time) - self.begun <= self.parts * time for time in times))
+        return (
+            start >= 0
+            and start % self.step_ms == 0
+            and times.stop <= self.plan.end_ms - start
+            and self.of_cycle <= self.parts * self.cycle
+            and all(self.by(start + time) - self.begun <= self.parts * time for time in times)
+        )
 
     def runs(self, first: int, count: int) -> list[tuple[int, int, int, int]]:
         """Of so many slots those that are not green as a whole, from the first on, with the green since the plan began
@@ -138,23 +147,46 @@ class Let:
         if later - green >= self.parts * time:
             return None
         count = self.passed(end, later) - self.passed(start, green)
-        return min(MOST_SLOT_UNITS, count + self.capacity * (self.step_ms - time) // self.step_ms)
+        return min(MOST_SLOT_UNITS, count + self.capacity * (self.step_ms - time) // (self.step_ms * self.of))
 
     def passed(self, time: int, green: int) -> int:
         """The thousandths of vehicles that pass from the plan's start to a time, by the green up to it."""
         most = self.parts * (time - self.plan.start_ms)
-        return self.capacity * min(green - self.begun, most) // (self.parts * self.step_ms)
+        return self.capacity * min(green - self.begun, most) // (self.parts * self.step_ms * self.of)
 
 
-def even_limits(plan: Plan, *, capacity: int, step_ms: int, slots: int) -> list[Limit]:
-    """One limit for the whole plan, the mean of its cycle."""
+def even_limits(plan: Plan, *, capacity: int | Fraction, step_ms: int, slots: int, carry: bool = False) -> list[Limit]:
+    """One limit for the whole plan, the mean of its cycle, rounded down; with `carry` limits that let the mean pass in
+    each minute but for less than a thousandth of a vehicle, which is carried to the next."""
     first, last = max(0, plan.start_ms // step_ms), min(slots, -(-plan.end_ms // step_ms))
-    share = min(sum((green.share * Fraction(green.to_ms - green.from_ms, green.cycle_ms) for green in plan.greens),
-                    Fraction(0)), Fraction(1))
-    exact = capacity * share
-    return [Limit(plan.link, first, last, min(MOST_SLOT_UNITS,
-                                              exact.numerator
-                                              // exact.denominator))] if first < last and share < 1 else []
+    share = min(
+        sum(
+            (green.share * Fraction(green.to_ms - green.from_ms, green.cycle_ms) for green in plan.greens), Fraction(0)
+        ),
+        Fraction(1),
+    )
+    exact = min(capacity * share, Fraction(MOST_SLOT_UNITS))
+    if first >= last or share == 1:
+        return []
+    if carry:
+        return carried_limits(plan.link, exact, range(first, last), max(1, MINUTE_MS // step_ms))
+    return [Limit(plan.link, first, last, exact.numerator // exact.denominator)]
+
+
+def carried_limits(link: str, units: Fraction, slots: range, count: int) -> list[Limit]:
+    """Limits that let so much pass in each slot in the mean of every `count` slots, in whole thousandths of a vehicle:
+    in the last ones of these one more than in those before. Spans of slots with the same limit are one."""
+    limits: list[Limit] = []
+    for begin in range(slots.start, slots.stop, count):
+        end = min(begin + count, slots.stop)
+        passed = math.floor(units * (end - slots.start)) - math.floor(units * (begin - slots.start))
+        least, more = divmod(passed, end - begin)
+        for first, last, pace in ((begin, end - more, least), (end - more, end, least + 1)):
+            if limits and limits[-1].units == pace and first < last:
+                limits[-1].to_slot = last
+            elif first < last:
+                limits.append(Limit(link, first, last, pace))
+    return limits
 
 
 def by_turn(greens: Mapping[str, Sequence[Green]], shares: Mapping[str, Fraction]) -> tuple[Green, ...]:

@@ -1,0 +1,53 @@
+"""Values in the fields of tables of demand: clock times, and numbers of vehicles in thousandths."""
+from __future__ import annotations
+
+from collections.abc import Iterable, Iterator
+from fractions import Fraction
+
+from ..errors import Fault
+from ..files import Row
+from ..formats import CLOCK, LONGEST_SECONDS, MINUTE_MS, MOST_UNITS, clock_ms, count_text, whole_of
+
+
+def moment_ms(row: Row, field: str) -> int:
+    """The time of a field, a clock time or seconds, in ms."""
+    text = row.text(field)
+    if CLOCK.fullmatch(text):
+        return clock_ms(text)
+    days, _, clock = text.partition(":")
+    if text.count(":") == 3 and len(days) < 4 and (count := whole_of(days)) is not None:
+        return count * 1440 * MINUTE_MS + clock_ms(clock)
+    seconds = row.number(field)
+    if abs(seconds) > LONGEST_SECONDS:
+        raise row.fault(field, f"a clock time is wanted, or seconds, of at most {count_text(LONGEST_SECONDS)}")
+    return int(seconds * 1000)
+
+
+def whole_units(volume: Fraction, what: str) -> int:
+    """Vehicles in the nearest thousandths."""
+    units = (2000 * volume.numerator + volume.denominator) // (2 * volume.denominator)
+    if not 0 <= units <= MOST_UNITS:
+        raise Fault(f"{what}: {float(volume):g} vehicles, and 0 to 1000000 are allowed")
+    return units
+
+
+def summed_units(volumes: Iterable[Fraction]) -> Iterator[int]:
+    """Vehicles in thousandths, rounded so that those up to each one are the nearest to their sum."""
+    whole, given = Fraction(0), 0
+    for volume in volumes:
+        whole += volume
+        due = (2000 * whole.numerator + whole.denominator) // (2 * whole.denominator)
+        yield due - given
+        given = due
+
+
+def quarter_before(time_ms: int) -> int:
+    """The quarter of an hour at or before a time."""
+    return time_ms // (15 * MINUTE_MS) * 15 * MINUTE_MS
+
+
+def slots_of(minutes: int, step_ms: int) -> int:
+    """The slots of a slice of so many minutes, at least one; a Fault where the slice is shorter than a minute."""
+    if minutes < 1:
+        raise Fault("--slice is at least 1")
+    return max(1, minutes * MINUTE_MS // step_ms)

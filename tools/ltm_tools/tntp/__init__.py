@@ -1,0 +1,1 @@
+"""Networks in the format of the Transportation Networks collection (TNTP)."""
