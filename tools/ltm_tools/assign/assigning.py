@@ -1,9 +1,11 @@
 """The loop: shares go over to the best links as a loading shows them, and the next loading has the new shares."""
 from __future__ import annotations
 
+import math
 import os
-from collections.abc import Callable, Iterator
-from dataclasses import dataclass
+from collections.abc import Iterable, Iterator
+from dataclasses import dataclass, replace
+from itertools import islice
 from typing import NamedTuple
 
 import numpy
@@ -11,28 +13,39 @@ import numpy
 from ..case import Case, Split
 from ..errors import Fault
 from ..formats import MINUTE_MS
+from .crew import Crew, crew_of
 from .engine import Engine, case_with
-from .labels import Labels
+from .gaps import together
+from .growing import LOADINGS, Grown
 from .looking import Look, Looker
-from .net import Net, Real, Whole
-from .shares import check_ways, of_splits, periods_of, rounded, rows_of, with_last
-from .steps import averaged, stepped
+from .net import Net, Whole
+from .parts import Part
+from .rules import BACK, METHODS, Rule, Sizes
+from .shares import Pair, PairRows, check_ways, of_splits, split_rows
+from .spans import Spans
+from .steps import Traffic
 
-SMALLER, LARGER, BACK = 0.7, 1.03, 0.3  # what a step's size is multiplied by
-LOST = 1.5  # so many times the hours of the best iteration, with more regret, and an iteration is taken back
-Step = Callable[[Net, Labels, Whole, float, bool], Real]
+LOST = 1.5  # so many times the hours of the best iteration, with a worse score, and an iteration is taken back
+LOCKED = 0.02  # of the demand that has not arrived: it may be a gridlock
+NEAR = 1.5  # the relative gap at which a part of the demand is loaded no more
+POOR = 10.0  # the relative gap of a best loading from which a step into a gridlock has the demand loaded in parts
+BEST, FREE, PART = "best", "free", "part"  # names of shares that are kept
+ENDS = 8  # destinations that are worked out at once
+SEARCHED = 20_000_000  # origins times slots times links at which the program's gap takes a second or two
 
 
 @dataclass(frozen=True)
-class Options:
-    """How shares are sought: at most so many iterations, until the regret is at most so many per cent; the length of a
-    period; by which rule (see `METHODS`), and the first step's size, by default that of the rule."""
+class AssignOptions:
+    """How shares are sought: at most so many iterations, until the relative gap is at most so many per cent; the length
+    of a period; by which rule (see `METHODS`), and the first step's size, by default that of the rule; and how many
+    processes work out destinations, which changes no number."""
 
     iterations: int = 30
     until: float = 0.0
     period_ms: int = 5 * MINUTE_MS
     size: float | None = None
     method: str = "gradient"
+    processes: int = 1
 
     @property
     def rule(self) -> Rule:
@@ -51,127 +64,188 @@ class Options:
 
 
 class Iteration(NamedTuple):
-    """A loading of the loop: its number, what it says, the step's size behind it, and its round."""
+    """A loading of the loop: its number, what it says, the step's size behind it, and its round; the program's own gap
+    in per cent, where it was asked; and how many per cent of the demand were loaded."""
 
     number: int
     look: Look
     size: float
     round: int = 1
+    exact: float | None = None
+    demand: int = 100
 
 
-class Sizes:
-    """The size of steps: smaller behind an iteration whose regret is not below that of both before it."""
+@dataclass
+class Kept:
+    """The best iteration of some, by whose name its shares are kept; what has left each link by each boundary then, and
+    its traffic."""
 
-    def __init__(self, size: float) -> None:
-        self.size, self.before = size, [float("inf")]
-
-    def after(self, regret: float) -> float:
-        """The size behind an iteration with this regret."""
-        if regret >= min(self.before[-2:]):
-            self.size *= SMALLER
-        elif len(self.before) > 1:
-            self.size *= LARGER
-        self.before.append(regret)
-        return self.size
-
-
-class Averages(Sizes):
-    """The size 1 / (n + 1) behind iteration n, counted from 1 (the method of successive averages)."""
-
-    def after(self, regret: float) -> float:
-        self.before.append(regret)
-        return self.size / len(self.before)
-
-
-class SelfRegulating(Sizes):
-    """Averages whose divisor grows fast behind a worse iteration, and slowly behind a better one."""
-
-    FAST, SLOW = 1.5, 0.1
-
-    def __init__(self, size: float) -> None:
-        super().__init__(size)
-        self.divisor = 1.0
-
-    def after(self, regret: float) -> float:
-        self.divisor += self.FAST if regret > self.before[-1] else self.SLOW
-        self.before.append(regret)
-        return self.size / self.divisor
-
-
-class Rule(NamedTuple):
-    """How shares go over: a step, what changes its size, and the first size."""
-
-    step: Step
-    sizes: type[Sizes]
-    size: float
-
-
-METHODS = {"gradient": Rule(stepped, Sizes, 3.0), "averages": Rule(averaged, Averages, 1.0),
-           "self-regulating": Rule(averaged, SelfRegulating, 1.0)}
+    name: str
+    one: Iteration | None = None
+    left: Whole | None = None
+    traffic: Traffic | None = None
 
 
 class Assignment:
     """The shares of a case, with the best found so far."""
 
-    def __init__(self, case: Case, options: Options, splits: list[Split] | None = None) -> None:
+    def __init__(self, case: Case, options: AssignOptions, splits: list[Split] | None = None) -> None:
         """By default from the case's own splits; nodes without one, and a case without any, begin with free-flow
         routes."""
         if not case.standing_demand():
             raise Fault("the case has no demand, so nobody seeks a way")
-        self.case, self.options, self.rule, self.period = case, options, options.rule, options.slots(case)
+        self.case, self.options, self.rule = case, options, options.rule
+        period = options.slots(case)
         self.net = Net(case)
         check_ways(self.net)
-        own = case.standing_splits() if splits is None else splits
-        self.weights = of_splits(self.net, own, periods_of(self.net.slots, self.period), self.period)
-        self.ahead: Whole | None = None
-        self.best = self.weights
-        self.best_one: Iteration | None = None
-        self.best_left: Whole | None = None  # what has left each link by each boundary
-        self.best_labels: Labels | None = None
+        self.looker, self.spans = Looker(self.net), Spans.by_period(self.net.slots, period)
+        self.parts = parts_of(self.looker, case.standing_splits() if splits is None else splits, self.spans)
+        self.room = self.looker.room(self.spans)
+        self.kept = Kept(BEST)
+        self.crew = Crew(self.parts)
+        self.crew.keep(FREE)
+        self.best_rows: dict[Pair, PairRows] = {}
         self.gently = False  # whether a step has led to a gridlock
+
+    @property
+    def best(self) -> Whole:
+        """The best weights, `[spans, L, D]`."""
+        return of_splits(self.net, split_rows(self.best_rows), self.spans)
+
+    @property
+    def best_one(self) -> Iteration | None:
+        """The best iteration so far."""
+        return self.kept.one
 
     def run(self, program: str | os.PathLike[str] | None = None) -> Iterator[Iteration]:
         """Each iteration as it is done, the first of the shares that it begins with; the last is that behind which no
-        share changes, at the latest."""
-        sizes = self.rule.sizes(self.rule.size)
-        looker = Looker(self.net)
-        with Engine(self.net, rows_of(self.net, self.weights, self.period), program) as engine:
-            for number in range(self.options.iterations + 1):
-                look, labels, left = looker.look(engine, self.weights, self.period)
-                is_lost = self._is_lost(look)
-                sizes.size *= BACK if is_lost else 1
-                made = Iteration(number, look, sizes.after(look.regret))
-                if self.best_one is None or look.regret < self.best_one.look.regret:
-                    self.best, self.best_one, self.best_left, self.best_labels = self.weights, made, left, labels
-                yield made
-                if look.per_cent <= self.options.until or number == self.options.iterations:
+        share changes, at the latest. Where a loading is a gridlock the demand is loaded in parts behind it."""
+        numbers, sizes, grown = iter(range(self.options.iterations + 1)), self.rule.sizes(self.rule.size), Grown()
+        with crew_of(self.parts, self.options.processes) as self.crew, Engine(
+            self.net, self.crew.rows(), program
+        ) as engine:
+            while True:
+                for made in self._steps(engine, self.kept, numbers, sizes):
+                    yield made
+                    locks = self._locks(made.look)
+                    if made.number == self.options.iterations or not locks and made.look.per_cent <= self.options.until:
+                        return
+                    if locks and self._is_poor():
+                        grown.found(100, locks, self.options.iterations - made.number)
+                        if grown.next() < 100:
+                            break
+                else:
                     return
-                if is_lost and self.best_labels is not None:
-                    self.weights, labels, self.ahead, self.gently = self.best, self.best_labels, None, True
-                self.weights = self._next(labels, made.size)
-                if not engine.tell(rows_of(self.net, self.weights, self.period)) and not is_lost:
-                    return
+                yield from self._in_parts(grown, sizes, numbers, program)
+                engine.tell(self.crew.rows())
 
-    def _is_lost(self, look: Look) -> bool:
-        """Whether a step has led to a gridlock, from which small steps would lead no way back."""
-        best = None if self.best_one is None else self.best_one.look
-        return best is not None and look.spent > LOST * best.spent and look.regret > best.regret
+    def _in_parts(
+        self, grown: Grown, sizes: Sizes, numbers: Iterator[int], program: str | os.PathLike[str] | None
+    ) -> Iterator[Iteration]:
+        """Loads more and more of the demand, each part with a few iterations, until all of it is to be loaded; the
+        shares are then the best of the largest part that is free."""
+        self.crew.back(FREE)
+        while (demand := grown.next()) < 100:
+            self.crew.load(demand / 100)
+            kept, made = Kept(PART), None
+            sizes.anew()
+            with Engine(self.net, self.crew.rows(), program, scaled(self.case, demand)) as engine:
+                for made in self._steps(engine, kept, islice(numbers, LOADINGS), sizes, demand):
+                    yield made
+                    locks = self._locks(made.look)
+                    if locks and kept.one is made or not locks and made.look.per_cent <= NEAR:
+                        break
+            if made is None or kept.one is None:
+                break
+            locks = self._locks(kept.one.look)
+            grown.found(demand, locks, self.options.iterations - made.number)
+            self.crew.back(FREE if locks else PART)
+            if not locks:
+                self.crew.keep(FREE)
+        self.crew.load(1.0)
+        sizes.anew()
 
-    def _next(self, labels: Labels, size: float) -> Whole:
-        """The weights behind an iteration. Which links lead on is told by this and earlier loadings, half by the last,
-        so that few links cease to at once."""
-        if self.ahead is not None:
-            labels.ahead = (self.ahead + labels.ahead) // 2
-        self.ahead = labels.ahead
-        weights = rounded(self.net, self.rule.step(self.net, labels, self.weights, size, self.gently))
-        return with_last(weights, last_period(labels))
+    def _steps(
+        self, engine: Engine, kept: Kept, numbers: Iterator[int], sizes: Sizes, demand: int = 100
+    ) -> Iterator[Iteration]:
+        """Loading after loading with a step between them, until no share changes; the best is kept."""
+        for number in numbers:
+            made, traffic = self._looked(engine, number, sizes, demand)
+            is_lost = self._is_lost(made.look, kept.one)
+            if is_lost:
+                made = made._replace(size=made.size * BACK)
+                sizes.cut()
+            elif kept.one is None or made.look.score < kept.one.look.score:
+                kept.one, kept.left, kept.traffic = made, self.left, traffic
+                self.crew.keep(kept.name)
+                if kept is self.kept:
+                    self.best_rows = dict(engine.rows)
+            yield made
+            if is_lost:
+                assert kept.traffic is not None, "what is lost is worse than another"
+                self.gently, traffic = True, kept.traffic
+                self.crew.back(kept.name)
+            self.crew.step(self.rule.step, traffic, made.size, self.gently)
+            if not engine.tell(self.crew.rows()) and not is_lost:
+                return
+
+    def _looked(self, engine: Engine, number: int, sizes: Sizes, demand: int = 100) -> tuple[Iteration, Traffic]:
+        """The loading of the shares of now, and its traffic."""
+        counts, (spent, not_there) = engine.counts(), engine.spent()
+        times = self.looker.times(counts)
+        told = self.crew.look(times)
+        self.left = counts.left
+        look = Look(
+            spent,
+            not_there,
+            math.fsum(regret for of_part in told for regret in of_part.regrets),
+            together([gap for of_part in told for gap in of_part.gaps]),
+        )
+        flow = numpy.concatenate([of_part.flow for of_part in told], axis=2).sum(axis=2)
+        asked = self.exact_is_cheap or number in (0, self.options.iterations)
+        exact = engine.exact_gap() if asked and demand == 100 else None
+        traffic = Traffic(flow, self.room, self.spans.lengths * self.net.step)
+        return Iteration(number, look, sizes.after(look.score), exact=exact, demand=demand), traffic
+
+    @property
+    def exact_is_cheap(self) -> bool:
+        """Whether the program's own gap is asked of each loading, and not of the first and the last alone."""
+        return len(self.net.origins) * self.net.slots * len(self.net.names) <= SEARCHED
+
+    def _locks(self, look: Look) -> bool:
+        """Whether many have not arrived, so that it may be a gridlock."""
+        return look.not_there > LOCKED * look.gap.all
+
+    def _is_poor(self) -> bool:
+        """Whether the best so far is a gridlock, or far from an equilibrium."""
+        return self.kept.one is None or self._locks(self.kept.one.look) or self.kept.one.look.per_cent > POOR
+
+    def _is_lost(self, look: Look, one: Iteration | None) -> bool:
+        """Whether a step from what is the best has led to a gridlock, from which small steps would lead no way back."""
+        best = None if one is None else one.look
+        if best is None or look.score < best.score or self._locks(best):
+            return False
+        return look.spent > LOST * best.spent or look.not_there > best.not_there + LOCKED * look.gap.all
 
     def best_case(self) -> Case:
         """The case with the best shares."""
-        return case_with(self.case, rows_of(self.net, self.best, self.period))
+        return case_with(self.case, self.best_rows)
 
 
-def last_period(labels: Labels) -> int:
-    """The last period in which anything flows at a node."""
-    busy = numpy.flatnonzero(labels.flow.reshape(len(labels.flow), -1).max(axis=1) > 0)
-    return int(busy[-1]) if len(busy) else 0
+def parts_of(looker: Looker, splits: Iterable[Split], spans: Spans) -> list[Part]:
+    """The destinations of a case in parts, with the shares of split rows."""
+    net, rows = looker.net, list(splits)
+    found = []
+    for first in range(0, len(net.end_names), ENDS):
+        places = numpy.arange(first, min(first + ENDS, len(net.end_names)))
+        own = net.part(places)
+        departures = looker.departures.part(places, len(net.end_names))
+        found.append(Part(own, departures, of_splits(own, rows, spans), spans))
+    return found
+
+
+def scaled(case: Case, per_cent: int) -> Case:
+    """The case with so many per cent of its demand."""
+    made = Case.of(case)
+    made.demand = [replace(row, units=row.units * per_cent // 100) for row in case.demand]
+    return made

@@ -25,7 +25,7 @@ def first_moments(counts: Whole, wanted: Whole, step: int) -> Whole:
     return numpy.where(after == 0, 0, numpy.where(after > last, last * step + 1, moment))
 
 
-def passed(entered: Whole, left: Whole, free: int, capacity: int, step: int, boundaries: Whole) -> Whole:
+def exit_moments(entered: Whole, left: Whole, free: int, capacity: int, step: int, boundaries: Whole) -> Whole:
     """When those leave a link who enter it at these boundaries, its ends being open; `capacity` is what passes in a
     slot after the end."""
     end = (len(left) - 1) * step
@@ -64,7 +64,9 @@ def leaving(net: Net, gates: Gates, entered: Whole, left: Whole) -> Whole:
         at = boundaries
         if gates.entry_shuts[link]:
             at = gates.entry[:, link]
-        moments = passed(entered[:, link], left[:, link], int(net.free[link]), int(net.capacity[link]), net.step, at)
+        moments = exit_moments(
+            entered[:, link], left[:, link], int(net.free[link]), int(net.capacity[link]), net.step, at
+        )
         if gates.exit_shuts[link]:
             slot = numpy.clip((moments - 1) // net.step, 0, net.slots)
             opens = gates.exit[slot, link]
@@ -79,5 +81,6 @@ def setting_out(net: Net, made: Whole, left: Whole) -> Whole:
     end = net.slots * net.step
     moments = first_moments(left, made, net.step)
     late = end + (made - left[-1]) // PACE
-    return numpy.asarray(numpy.maximum(numpy.where(moments > end, late, moments),
-                                       numpy.arange(net.slots + 1) * net.step))
+    return numpy.asarray(
+        numpy.maximum(numpy.where(moments > end, late, moments), numpy.arange(net.slots + 1) * net.step)
+    )

@@ -5,9 +5,12 @@ it is to each. Each sum is made one number at a time, in the order of links, so 
 """
 from __future__ import annotations
 
+from copy import copy
+
 import numpy
 
 from .net import WHOLE, Net, Real, Whole
+from .spans import Spans
 
 
 class Departures:
@@ -23,6 +26,21 @@ class Departures:
         pair, self.at = numpy.nonzero(amounts)
         self.amount, self.origin, self.end = amounts[pair, self.at], origins[pair], ends[pair]
 
+    def part(self, places: Whole, count: int) -> "Departures":
+        """The same for some of so many destinations, which are numbered anew in this order."""
+        number = numpy.full(count, -1, dtype=numpy.int64)
+        number[places] = numpy.arange(len(places))
+        made, chosen = copy(self), number[self.end] >= 0
+        made.at, made.amount, made.origin = self.at[chosen], self.amount[chosen], self.origin[chosen]
+        made.end = number[self.end[chosen]]
+        return made
+
+    def scaled(self, part: float) -> "Departures":
+        """The same with a part of each amount."""
+        made = copy(self)
+        made.amount = self.amount * part
+        return made
+
 
 def arriving(net: Net, moments: Whole) -> tuple[Whole, Real]:
     """The boundary before each moment, at most the end, and the part of what comes then that belongs to the next."""
@@ -31,9 +49,9 @@ def arriving(net: Net, moments: Whole) -> tuple[Whole, Real]:
     return boundary, part
 
 
-def flows(net: Net, leave: Whole, set_out: Real, weights: Whole, period: int) -> Real:
+def flows(net: Net, leave: Whole, set_out: Real, weights: Whole, spans: Spans) -> Real:
     """What is at each node for each destination at each boundary, `[slots + 1, N, D]`. `set_out` is what leaves
-    origins' queues, in the same shape with a boundary more, and is used up; `weights` are the shares `[periods, L,
+    origins' queues, in the same shape with a boundary more, and is used up; `weights` are the shares `[spans, L,
     D]`."""
     found = set_out
     boundary, part = arriving(net, leave)
@@ -45,8 +63,7 @@ def flows(net: Net, leave: Whole, set_out: Real, weights: Whole, period: int) ->
         busy = here.any(axis=1)
         if not busy.any():
             continue
-        span = min(k // period, len(weights) - 1)
-        out = here.take(net.tail, axis=0) * shares[span]
+        out = here.take(net.tail, axis=0) * shares[spans.of[k]]
         later = out * part[k][:, None]
         out -= later
         for links in net.into:

@@ -1,6 +1,6 @@
-"""Links that lead on: by which a share may go for a destination in a period, and no circle can come of them.
+"""Links that lead on: by which a share may go for a destination in a span, and no loop can come of them.
 
-Each node has a potential, the sum over the period of the least time that is still to go from it. A link leads on where
+Each node has a potential, the sum over the span of the least time that is still to go from it. A link leads on where
 the potential falls along it. Where a node has no such link its potential is raised just above the least behind one of
 its links, until each has one.
 """
@@ -17,7 +17,7 @@ ROUNDS = 40  # of raising all at once; where nodes raise each other longer a sea
 
 
 def leading_on(net: Net, ahead: Whole) -> Truth:
-    """Of each period, link and destination whether the link leads on, by the sums `[periods, N, D]` of least times
+    """Of each span, link and destination whether the link leads on, by the sums `[spans, N, D]` of least times
     still to go."""
     potential = ahead.copy()
     potential[:, net.ends, numpy.arange(len(net.end_names))] = -1
@@ -54,8 +54,8 @@ def raised(net: Net, own: list[int], end: int) -> list[int]:
     return found
 
 
-def circling(net: Net, shares: Real) -> Truth:
-    """Of each period, node of `tails` and destination whether who goes on by the shares may come into a circle."""
+def circling(net: Net, shares: Real | Whole) -> Truth:
+    """Of each span, node of `tails` and destination whether who goes on by the shares may come into a circle."""
     used, settled = shares > 0, numpy.zeros((len(shares), *net.free_time.shape), dtype=bool)
     settled[:, net.ends, numpy.arange(len(net.end_names))] = True
     while True:

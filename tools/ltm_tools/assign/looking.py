@@ -1,4 +1,4 @@
-"""What a loading says about routes: hours, regret, and the times by which shares go over."""
+"""What a loading says about routes, as its curves show it: when links are left, and the traffic that follows."""
 from __future__ import annotations
 
 from typing import NamedTuple
@@ -6,34 +6,48 @@ from typing import NamedTuple
 import numpy
 
 from ..case import Limit
-from .engine import Counts, Engine
+from .engine import Counts
 from .exits import Gates, leaving, setting_out
-from .flows import Departures, flows, leaving_origins
-from .labels import Labels
+from .flows import Departures
+from .gaps import Gap
 from .net import Net, Real, Whole
-from .regret import lost_times, total
+from .spans import Spans
+
+LATE = 1000  # parts of the demand: loadings differ in who has not arrived where they do in such a part
 
 
 class Look(NamedTuple):
-    """The vehicle time of a loading and its turn regret, in thousandths of a vehicle times ms, and who is not there by
-    the end."""
+    """What a loading says: its total travel time and its turn regret, in thousandths of a vehicle times ms, who has not
+    arrived by the end, in thousandths of a vehicle, and its gap."""
 
     spent: int
     not_there: int
     regret: float
+    gap: Gap
 
     @property
     def per_cent(self) -> float:
-        """The regret in per cent of the vehicle time."""
+        """The relative gap."""
+        return self.gap.per_cent
+
+    @property
+    def regret_per_cent(self) -> float:
+        """The turn regret in per cent of the travel time."""
         return 100 * self.regret / self.spent if self.spent else 0.0
 
+    @property
+    def score(self) -> tuple[int, float]:
+        """The lower of two is the better loading: more arrive, or if as many do, less is lost. Who has not arrived
+        counts in thousandths of the demand, so that what is cut at the horizon's end does not decide."""
+        return self.not_there * LATE // max(1, round(self.gap.all)), self.gap.lost
 
-class Seen(NamedTuple):
-    """What a loading says, its labels, and what has left each link by each boundary."""
 
-    look: Look
-    labels: Labels
-    left: Whole
+class Times(NamedTuple):
+    """When one leaves each link who comes to its entry at a boundary, `[slots + 1, L]`, and an origin's queue who sets
+    out then, `[slots + 1, N]`, in ms."""
+
+    leave: Whole
+    set_out: Whole
 
 
 class Looker:
@@ -50,27 +64,15 @@ class Looker:
         """Has these entry limits stand beside the case's own."""
         self.gates = Gates(self.net.limits([*self.net.case.limits, *rows]), self.exit)
 
-    def room(self, period: int) -> Real:
-        """What could pass each link in each period, in thousandths of a vehicle, by its capacity and the case's own
+    def room(self, spans: Spans) -> Real:
+        """What could pass each link in each span, in thousandths of a vehicle, by its capacity and the case's own
         limits."""
-        return numpy.add.reduceat(self.passing, numpy.arange(0, self.net.slots, period), axis=0).astype(numpy.float64)
+        return numpy.add.reduceat(self.passing, spans.starts, axis=0).astype(numpy.float64)
 
-    def look(self, engine: Engine, weights: Whole, period: int) -> Seen:
-        """What the engine's loading says, which has these weights."""
-        return self.seen(engine.counts(), engine.spent(), weights, period)
-
-    def seen(self, counts: Counts, spent: tuple[int, int], weights: Whole, period: int) -> Seen:
-        """What a loading with these counts, vehicle time and late vehicles says."""
-        labels = self.labels(counts, weights, period)
-        return Seen(Look(*spent, total(lost_times(self.net, labels, weights))), labels, counts.left)
-
-    def labels(self, counts: Counts, weights: Whole, period: int) -> Labels:
-        """The labels of a loading."""
+    def times(self, counts: Counts) -> Times:
+        """The times of a loading with these counts."""
         net = self.net
-        leave = leaving(net, self.gates, counts.entered, counts.left)
-        moments = numpy.zeros((net.slots + 1, len(net.node_names)), dtype=numpy.int64)
+        set_out = numpy.zeros((net.slots + 1, len(net.node_names)), dtype=numpy.int64)
         for node, of_node in counts.origins.items():
-            moments[:, node] = setting_out(net, *of_node)
-        set_out = leaving_origins(net, self.departures, moments)
-        return Labels(net, leave, flows(net, leave, set_out, weights, period), weights, period,
-                      self.room(period))
+            set_out[:, node] = setting_out(net, *of_node)
+        return Times(leaving(net, self.gates, counts.entered, counts.left), set_out)

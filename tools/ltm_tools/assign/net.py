@@ -7,6 +7,7 @@ worked out over the links of each node is so by a few operations on neighbours, 
 from __future__ import annotations
 
 from collections.abc import Sequence
+from copy import copy
 from itertools import accumulate
 from typing import Any
 
@@ -14,9 +15,10 @@ import numpy
 from numpy.typing import NDArray
 
 from ..case import Case, Limit, Link
+from ..case.roads import Roads
+from ..errors import Fault
 from ..formats import MOST_SLOT_UNITS
-from ..loading.delay import demand_of, produced
-from ..network.passages import Roads
+from ..loading.delay import demand_by_origin, produced
 
 Whole = NDArray[numpy.int64]
 Real = NDArray[numpy.float64]
@@ -30,6 +32,9 @@ class Net:
     """Links, nodes and destinations of a case by number. Times are ms, amounts thousandths of a vehicle."""
 
     def __init__(self, case: Case) -> None:
+        """A Fault where the case has no links, or no destinations."""
+        if not case.links or not case.destinations:
+            raise Fault(f"the case has no {'links' if not case.links else 'demand'}, so nobody seeks a way")
         self.case, self.step, self.slots = case, case.setup.step_ms, case.setup.slots
         self.node_names, self.end_names = case.nodes, case.destinations
         number = {name: place for place, name in enumerate(self.node_names)}
@@ -37,24 +42,34 @@ class Net:
         for link in case.links:
             outs.setdefault(link.tail, []).append(link)
         order = sorted(outs, key=lambda name: (-len(outs[name]), number[name]))
-        layers = [[outs[name][rank] for name in order if rank < len(outs[name])]
-                  for rank in range(max(map(len, outs.values()), default=0))]
+        layers = [
+            [outs[name][rank] for name in order if rank < len(outs[name])]
+            for rank in range(max(map(len, outs.values()), default=0))
+        ]
         self.links = [link for layer in layers for link in layer]
         self.layers = tuple(accumulate(map(len, layers), initial=0))
         self.names = [link.name for link in self.links]
         self.place = {name: place for place, name in enumerate(self.names)}
-        self.tail, self.head = whole(number[link.tail] for link in self.links), whole(number[link.head]
-                                                                                      for link in self.links)
-        self.free = whole(link.free_ms for link in self.links)
-        self.capacity = whole(max(1, link.capacity(self.step)) for link in self.links)
-        self.ends = whole(number[name] for name in self.end_names)
-        self.tails = whole(number[name] for name in order)
-        self.group = numpy.concatenate([numpy.arange(len(layer)) for layer in layers] or [whole(())])
+        self.tail = whole_array(number[link.tail] for link in self.links)
+        self.head = whole_array(number[link.head] for link in self.links)
+        self.free = whole_array(link.free_ms for link in self.links)
+        self.capacity = whole_array(max(1, link.capacity(self.step)) for link in self.links)
+        self.ends = whole_array(number[name] for name in self.end_names)
+        self.tails = whole_array(number[name] for name in order)
+        self.group = numpy.concatenate([numpy.arange(len(layer)) for layer in layers] or [whole_array(())])
         self.into = by_rank(self.head)
         self.free_time = self._free_times()
         self.leads = (self.free_time[self.head] < FAR) & (self.tail[:, None] != self.ends[None, :])
         self.routed = self.some_of(self.leads)  # nodes, in the order of `tails`, and destinations with a way
-        self.origins = {number[name]: rows for name, rows in demand_of(case).items()}
+        self.origins = {number[name]: rows for name, rows in demand_by_origin(case).items()}
+
+    def part(self, places: Whole) -> "Net":
+        """The same for some of the destinations, by their places."""
+        made = copy(self)
+        made.end_names = [self.end_names[place] for place in places.tolist()]
+        made.ends, made.free_time = self.ends[places], self.free_time[:, places]
+        made.leads, made.routed = self.leads[:, places], self.routed[:, places]
+        return made
 
     def _free_times(self) -> Whole:
         """The least free-flow time from each node to each destination, `FAR` where there is no way."""
@@ -64,6 +79,16 @@ class Net:
         for place, name in enumerate(self.end_names):
             for node, time in roads.least_times(name).items():
                 found[number[node], place] = time
+        return found
+
+    def best_of(self, of_links: Real) -> Whole:
+        """Of each node of `tails` and destination the link with the least, the first of several."""
+        least, found = of_links[: self.layers[1]].copy(), numpy.zeros(self.routed.shape, dtype=numpy.int64)
+        found += numpy.arange(len(found))[:, None]
+        for start, end in zip(self.layers[1:], self.layers[2:]):
+            part, lower = least[: end - start], of_links[start:end] < least[: end - start]
+            numpy.copyto(part, of_links[start:end], where=lower)
+            numpy.copyto(found[: end - start], numpy.arange(start, end)[:, None], where=lower)
         return found
 
     def links_of(self, group: int) -> list[int]:
@@ -97,11 +122,15 @@ class Net:
         found: dict[tuple[int, int], Whole] = {}
         for node, rows in self.origins.items():
             for name in dict.fromkeys(row.destination for row in rows):
-                found[node, end[name]] = numpy.asarray(produced([row for row in rows if row.destination == name],
-                                                                self.slots + 1))
+                found[node, end[name]] = numpy.asarray(
+                    produced([row for row in rows if row.destination == name], self.slots + 1)
+                )
         pairs = sorted(found)
-        return (whole(origin for origin, _ in pairs), whole(place for _, place in pairs),
-                numpy.array([found[pair] for pair in pairs], dtype=numpy.int64).reshape(len(pairs), self.slots + 1))
+        return (
+            whole_array(origin for origin, _ in pairs),
+            whole_array(place for _, place in pairs),
+            numpy.array([found[pair] for pair in pairs], dtype=numpy.int64).reshape(len(pairs), self.slots + 1),
+        )
 
     def limits(self, rows: Sequence[Limit]) -> Whole:
         """The limit of each link in each slot, `[slots, L]`, as these rows set them one after another."""
@@ -111,7 +140,7 @@ class Net:
         return found
 
 
-def whole(numbers: Any) -> Whole:
+def whole_array(numbers: Any) -> Whole:
     """Whole numbers as an array."""
     return numpy.fromiter(numbers, dtype=numpy.int64)
 

@@ -1,7 +1,8 @@
 """Turn regret: what those lose who go on by the shares of a node, and not by its best link.
 
-Of a node, a destination and a period it is what flows there, times the mean over its links of the time by the link and
-on as the others go, less the least of these. It is 0 exactly where no row of one node can gain by another link alone.
+Of a node, a destination and a span it is what flows there, times the mean over its links of the time by the link and on
+as the others go, less the least of these. It is 0 exactly where no row of one node can gain by another link alone. By
+it single shares are judged; how near all are to an equilibrium the relative gap says.
 """
 from __future__ import annotations
 
@@ -14,7 +15,7 @@ from .net import Net, Real, Whole
 
 
 def lost_times(net: Net, labels: Labels, weights: Whole) -> Real:
-    """The regret of each period, node with links and destination, in thousandths of a vehicle times ms."""
+    """The regret of each span, node with links and destination, in thousandths of a vehicle times ms."""
     sums = net.sum_of(weights)
     mean = net.sum_of(numpy.where(weights > 0, weights * labels.time, 0.0)) / numpy.maximum(sums, 1)
     least = net.least_of(numpy.where(net.leads, labels.time, numpy.inf))
@@ -22,6 +23,6 @@ def lost_times(net: Net, labels: Labels, weights: Whole) -> Real:
     return numpy.asarray(numpy.maximum(lost, 0.0) * labels.flow[:, net.tails])
 
 
-def total(lost: Real) -> float:
+def total_regret(lost: Real) -> float:
     """The regret of all, the same whatever the order of the sum."""
     return math.fsum(lost.ravel().tolist())

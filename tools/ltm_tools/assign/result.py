@@ -16,7 +16,7 @@ from .assigning import Iteration
 from .rounds import Rounds
 
 ITERATIONS_FILE = "iterations.csv"
-FIELDS = ("iteration", "round", "spent", "regret", "not_there", "step")
+FIELDS = ("iteration", "round", "demand", "spent", "gap", "exact_gap", "regret", "not_there", "step")
 MOST_LATE = 3  # destinations that are named
 
 
@@ -25,15 +25,19 @@ def splits_from(folder: str | os.PathLike[str], case: Case) -> list[Split]:
     other = Case.read(folder, splits=True)
     tails = {link.name: link.tail for link in case.links}
     ends = set(case.destinations)
-    found = [row for row in other.standing_splits()
-             if row.destination in ends and all(tails.get(name) == row.node for name in row.weights)]
+    found = [
+        row
+        for row in other.standing_splits()
+        if row.destination in ends and all(tails.get(name) == row.node for name in row.weights)
+    ]
     if not found:
         raise Fault(f"{os.fspath(folder)}: no split row there is of a node and a destination of this case")
     return found
 
 
-def write_result(folder: str | os.PathLike[str], to: str | os.PathLike[str], rounds: Rounds,
-                 done: Sequence[Iteration]) -> None:
+def write_result(
+    folder: str | os.PathLike[str], to: str | os.PathLike[str], rounds: Rounds, done: Sequence[Iteration]
+) -> None:
     """Writes the case with the best shares of the last round into a folder, with the iterations, and with what lies
     beside the case that it was made of, as the places of its nodes."""
     beside = {name: read_bytes(path) for name in BESIDE if os.path.exists(path := os.path.join(folder, name))}
@@ -46,21 +50,28 @@ def write_result(folder: str | os.PathLike[str], to: str | os.PathLike[str], rou
 
 
 def row_of(one: Iteration) -> list[str]:
-    """An iteration as it is written: times in vehicle seconds."""
-    return [str(one.number), str(one.round), seconds_text(one.look.spent), seconds_text(round(one.look.regret)),
-            vehicles_text(one.look.not_there), f"{one.size:.6f}"]
+    """An iteration as it is written: times in vehicle seconds, gaps and the demand in per cent."""
+    return [
+        str(one.number),
+        str(one.round),
+        str(one.demand),
+        seconds_text(one.look.spent),
+        f"{one.look.per_cent:.6f}",
+        "" if one.exact is None else f"{one.exact:.6f}",
+        seconds_text(round(one.look.regret)),
+        vehicles_text(one.look.not_there),
+        f"{one.size:.6f}",
+    ]
 
 
 def read_iterations(folder: str | os.PathLike[str]) -> tuple[list[int], list[float]]:
-    """Of each iteration that led to an assigned case the vehicle time, in thousandths of a vehicle times ms, and the
-    turn regret in per cent of it."""
+    """Of each iteration with all of the demand that led to an assigned case the vehicle time, in thousandths of a
+    vehicle times ms, and the relative gap in per cent."""
     path = os.path.join(folder, ITERATIONS_FILE)
     if not os.path.exists(path):
         raise Fault(f"{path} is not there: `ltm-tools assign` writes it")
-    rows = read_table(path, ("spent", "regret"))
-    spent = [int(row.number("spent") * MILLIONTHS) for row in rows]
-    regret = [float(row.number("regret") * MILLIONTHS) for row in rows]
-    return spent, [100 * part / whole if whole else 0.0 for part, whole in zip(regret, spent)]
+    rows = [row for row in read_table(path, ("demand", "spent", "gap")) if row.number("demand") == 100]
+    return [int(row.number("spent") * MILLIONTHS) for row in rows], [float(row.number("gap")) for row in rows]
 
 
 def late_line(folder: str, program: str | None) -> str:
@@ -73,5 +84,7 @@ def late_line(folder: str, program: str | None) -> str:
     worst = sorted((units, name) for name, units in late.items() if units)[::-1]
     named = ", ".join(f"{vehicles_text(units)} for {name}" for units, name in worst[:MOST_LATE])
     more = f", and more for {count_text(len(worst) - MOST_LATE)} others" if len(worst) > MOST_LATE else ""
-    return (f"{vehicles_text(sum(late.values()))} vehicles are not there by the end of the horizon: {named}{more}; with"
-            f" a longer horizon they count as those who are")
+    return (
+        f"{vehicles_text(sum(late.values()))} vehicles are not there by the end of the horizon: {named}{more}; with"
+        f" a longer horizon they count as those who are"
+    )

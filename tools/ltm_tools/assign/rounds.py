@@ -11,17 +11,23 @@ from ..formats import MINUTE_MS
 from ..network.crossings.options import CrossingOptions
 from ..network.crossings.recount import by_volumes, yielding
 from ..network.crossings.turn import Turn
-from ..network.crossings.turns_file import Turns, read
+from ..network.crossings.turns_file import Turns, read_turns
 from ..network.crossings.volumes import Volumes
-from .assigning import Assignment, Iteration, Options
+from .assigning import Assignment, Iteration, AssignOptions
 from .net import Net, Whole
 
 
 class Rounds:
     """An assignment in so many rounds, and what the last one has come to."""
 
-    def __init__(self, case: Case, options: Options, splits: list[Split] | None = None, rounds: int = 1,
-                 turns: Sequence[Turn] = ()) -> None:
+    def __init__(
+        self,
+        case: Case,
+        options: AssignOptions,
+        splits: list[Split] | None = None,
+        rounds: int = 1,
+        turns: Sequence[Turn] = (),
+    ) -> None:
         """The turns are those of the case, which rounds behind the first count."""
         self.rounds, self.turns = rounds, turns
         self.assignment = Assignment(case, options, splits)
@@ -53,15 +59,15 @@ class Rounds:
     def _following(self) -> tuple[Assignment, Turns]:
         """The assignment from the best shares, the turns counted in their loading, and these turns."""
         before = self.assignment
-        assert before.best_left is not None, "each round has an iteration"
-        volumes = volumes_of(before.net, before.best_left, CrossingOptions.slice_minutes * MINUTE_MS)
+        assert before.kept.left is not None, "each round has an iteration"
+        volumes = volumes_of(before.net, before.kept.left, CrossingOptions.slice_minutes * MINUTE_MS)
         made = by_volumes(before.best_case(), self.turns, volumes)
         return Assignment(made.case, before.options), made.turns
 
 
 def turns_that_yield(folder: str | os.PathLike[str], case: Case) -> list[Turn]:
     """The turns of the case of a folder; a Fault where none yields by gaps."""
-    turns = read(folder, {link.name: link for link in case.links})
+    turns = read_turns(folder, {link.name: link for link in case.links})
     if not yielding(turns):
         raise Fault(f"{os.fspath(folder)}: no turn yields by gaps, so that further rounds change nothing")
     return turns

@@ -1,17 +1,18 @@
-"""Shares of links by destination and period, as whole weights that sum to `WHOLE` at each node.
+"""Shares of links by destination and span of slots, as whole weights that sum to `WHOLE` at each node.
 
-They are arrays `[periods, L, D]`, links in the order of a `Net`. The rows of a node and a destination say the same for
+They are arrays `[spans, L, D]`, links in the order of a `Net`. The rows of a node and a destination say the same for
 a case: one where the weights change.
 """
 from __future__ import annotations
 
-from collections.abc import Iterable, Mapping
+from collections.abc import Iterable, Mapping, Sequence
 
 import numpy
 
 from ..case import Split
 from ..errors import Fault
 from .net import FAR, WHOLE, Net, Real, Whole
+from .spans import Spans
 
 Pair = tuple[str, str]  # a node and a destination
 PairRows = list[tuple[int, dict[str, int]]]  # the first slot of each row, and its weights
@@ -43,18 +44,20 @@ def free_flow(net: Net) -> Real:
     return found
 
 
-def of_splits(net: Net, splits: Iterable[Split], periods: int, period: int) -> Whole:
-    """The weights of split rows: of each period those in force in its first slot, and of free-flow routes where a node
+def of_splits(net: Net, splits: Iterable[Split], spans: Spans) -> Whole:
+    """The weights of split rows: of each span those in force in its first slot, and of free-flow routes where a node
     has none. A row counts as far as its links lead to the destination."""
-    found: Whole = numpy.repeat(rounded(net, free_flow(net))[None], periods, axis=0)
+    found: Whole = numpy.repeat(rounded(net, free_flow(net))[None], len(spans), axis=0)
     end = {name: place for place, name in enumerate(net.end_names)}
     group = dict(zip((net.node_names[node] for node in net.tails.tolist()), range(len(net.tails))))
     for row in sorted(splits, key=lambda row: row.from_slot):
+        if row.destination not in end:
+            continue
         links = net.links_of(group[row.node])
         shares = numpy.array([row.weights.get(net.names[link], 0) for link in links], dtype=numpy.float64)
         shares *= net.leads[links, end[row.destination]]
         if shares.any():
-            first = -(-row.from_slot // period)
+            first = int(numpy.searchsorted(spans.starts, row.from_slot))
             found[first:, links, end[row.destination]] = in_whole(shares)
     return found
 
@@ -68,8 +71,9 @@ def in_whole(weights: Real) -> Whole:
     return whole
 
 
-def rows_of(net: Net, weights: Whole, period: int) -> dict[Pair, PairRows]:
-    """The split rows of each node with a way to a destination, in the order of destinations."""
+def rows_of(net: Net, weights: Whole, starts: Sequence[int]) -> dict[Pair, PairRows]:
+    """The split rows of each node with a way to a destination, in the order of destinations, by the slots at which
+    spans begin."""
     changes = numpy.ones((len(weights), *net.routed.shape), dtype=bool)
     changes[1:] = net.some_of(weights[1:] != weights[:-1])
     found: dict[Pair, PairRows] = {}
@@ -78,32 +82,31 @@ def rows_of(net: Net, weights: Whole, period: int) -> dict[Pair, PairRows]:
         column = weights[span, links[group], end].tolist()
         row = {net.names[link]: weight for link, weight in zip(links[group], column) if weight}
         pair = net.node_names[net.tails[group]], net.end_names[end]
-        found.setdefault(pair, []).append((span * period, row))
+        found.setdefault(pair, []).append((starts[span], row))
     return found
 
 
-def splits_of(rows: dict[Pair, PairRows]) -> list[Split]:
+def split_rows(rows: dict[Pair, PairRows]) -> list[Split]:
     """The same as rows of a case."""
     return [Split(node, end, slot, weights) for (node, end), of_pair in rows.items() for slot, weights in of_pair]
 
 
 def check_ways(net: Net) -> None:
     """A Fault where no way leads from an origin to one of its destinations."""
-    lost = [f"{net.node_names[node]} to {row.destination}" for node, rows in net.origins.items() for row in rows
-            if net.free_time[node, net.end_names.index(row.destination)] >= FAR]
+    lost = [
+        f"{net.node_names[node]} to {row.destination}"
+        for node, rows in net.origins.items()
+        for row in rows
+        if net.free_time[node, net.end_names.index(row.destination)] >= FAR
+    ]
     if lost:
         names = list(dict.fromkeys(lost))
         more = f" and {len(names) - 3} others" if len(names) > 3 else ""
         raise Fault(f"no links lead from {', from '.join(names[:3])}{more}: add a link, or take the demand out")
 
 
-def periods_of(slots: int, period: int) -> int:
-    """How many periods of so many slots a horizon has, the last perhaps shorter."""
-    return -(-slots // period)
-
-
 def with_last(weights: Whole, last: int) -> Whole:
-    """The weights with those of a period for all behind it, in which nothing flows."""
+    """The weights with those of a span for all behind it, in which nothing flows."""
     found = weights.copy()
     found[last + 1 :] = found[last]
     return found

@@ -18,7 +18,8 @@ from ..case import Case
 from ..case.fields import fetch
 from ..errors import Fault
 from ..program import find_program
-from .scenarios import Row, Runner, Scenario
+from .here import Found, Kept
+from .scenarios import Row, Runner, SweepScenario
 
 PACKAGE = Path(__file__).resolve().parents[1]
 # how often a piece is run again where it went wrong, as without memory; where its worker is lost the scheduler does so
@@ -27,7 +28,7 @@ QUIET = ("asyncio", "distributed.client")  # loggers
 
 Place = tuple[str, str, int]  # a case with what is asked of it; the program, and when it was written
 
-_runners: dict[int, tuple[Place, Runner]] = {}  # in a worker: of each thread the one session that it keeps open
+_kept: dict[int, tuple[Place, Any]] = {}  # in a worker: of each thread the one session that it keeps open
 _folders: dict[str, "tempfile.TemporaryDirectory[str]"] = {}
 _lock = threading.Lock()
 
@@ -35,52 +36,74 @@ _lock = threading.Lock()
 def case_bytes(folder: str) -> dict[str, bytes]:
     """The files of a case."""
     setup = Case.read(folder).setup
-    files = ["setup", "links", "demand", "splits", *(["signals"] if setup.signals else []),
-             *(["limits"] if setup.limits else [])]
+    files = [
+        "setup",
+        "links",
+        "demand",
+        "splits",
+        *(["signals"] if setup.signals else []),
+        *(["limits"] if setup.limits else []),
+    ]
     return {file: fetch(folder, file) for file in files}
 
 
-def keep(files: dict[str, bytes]) -> dict[str, bytes]:
+def case_files(files: dict[str, bytes]) -> dict[str, bytes]:
     """The files of the case, as a worker gets them: a task, so that they are sent again where the worker that has them
     is lost."""
     return files
 
 
-def run_piece(piece: Sequence[tuple[int, str, list[list[dict[str, object]]]]], files: dict[str, bytes], key: str,
-              program: str, links: Sequence[str],
-              delay: bool) -> list[Row]:
-    """In a worker: the rows of results of a piece, by the session that is open there. Whatever is wrong is a plain
-    Fault, which can be sent."""
+def run_piece(
+    piece: Sequence[tuple[int, str, list[list[dict[str, object]]]]],
+    files: dict[str, bytes],
+    key: str,
+    program: str,
+    links: Sequence[str],
+    delay: bool,
+) -> list[Row]:
+    """In a worker: the rows of results of a piece, by the session that is open there."""
+
+    def work() -> list[Row]:
+        runner = kept_of(files, key, program, lambda folder, path: Runner(folder, path, links, delay))
+        return [runner.run(SweepScenario(*scenario)) for scenario in piece]
+
+    return in_worker(work)
+
+
+def in_worker(work: Callable[[], Found]) -> Found:
+    """In a worker: what work gives. Whatever is wrong is a plain Fault, which can be sent; the session that is open is
+    ended then, so that the next piece opens one anew."""
     try:
-        runner = runner_of(files, key, program, links, delay)
-        return [runner.run(Scenario(*scenario)) for scenario in piece]
+        return work()
     except BaseException as error:
-        end_session()  # the next piece opens one anew
+        end_session()
         if not isinstance(error, Exception):
             raise
-        raise Fault(str(error) if isinstance(error, Fault)
-                    else f"a worker failed: {type(error).__name__}: {error}") from None
+        raise Fault(
+            str(error) if isinstance(error, Fault) else f"a worker failed: {type(error).__name__}: {error}"
+        ) from None
 
 
-def runner_of(files: dict[str, bytes], key: str, program: str, links: Sequence[str], delay: bool) -> Runner:
-    """In a worker: the runner of this thread for a case and a program; one for another is ended."""
-    path = program_of(program)
+def kept_of(files: dict[str, bytes], key: str, program: str, make: Callable[[str, Path], Kept]) -> Kept:
+    """In a worker: what this thread keeps open for a case, a question of it and a program; for others it is ended."""
+    path = worker_program(program)
     place = (key, str(path), path.stat().st_mtime_ns)
-    kept = _runners.get(threading.get_ident())
+    kept = _kept.get(threading.get_ident())
     if kept is None or kept[0] != place:
         end_session()
-        kept = _runners[threading.get_ident()] = place, Runner(folder_of(files, key), path, links, delay)
-    return kept[1]
+        kept = _kept[threading.get_ident()] = place, make(folder_of(files, key), path)
+    found: Kept = kept[1]
+    return found
 
 
-def program_of(program: str) -> Path:
+def worker_program(program: str) -> Path:
     """In a worker: the program, at the path that it has on the command's machine, or as this machine has it."""
     return Path(program) if os.access(program, os.X_OK) else find_program()
 
 
 def end_session() -> None:
     """In a worker: ends the session of this thread, if there is one."""
-    kept = _runners.pop(threading.get_ident(), None)
+    kept = _kept.pop(threading.get_ident(), None)
     if kept is not None:
         try:
             kept[1].close()
@@ -108,15 +131,28 @@ def package_zip(folder: str) -> str:
     return path
 
 
-def there(address: str, folder: str, named: str | None, links: Sequence[str], delay: bool,
-          pieces: Sequence[Sequence[Scenario]]) -> Iterator[list[Row]]:
+def there(
+    address: str,
+    folder: str,
+    named: str | None,
+    links: Sequence[str],
+    delay: bool,
+    pieces: Sequence[Sequence[SweepScenario]],
+) -> Iterator[list[Row]]:
     """The rows of results of each piece, in order, by the workers of a cluster."""
-    return spread(address, folder, named, run_piece, [[tuple(scenario) for scenario in piece] for piece in pieces],
-                  (list(links), delay))
+    return spread(
+        address,
+        folder,
+        named,
+        run_piece,
+        [[tuple(scenario) for scenario in piece] for piece in pieces],
+        (list(links), delay),
+    )
 
 
-def spread(address: str, folder: str, named: str | None, run: Callable[..., Any], pieces: Sequence[Any],
-           asked: tuple[Any, ...]) -> Iterator[Any]:
+def spread(
+    address: str, folder: str, named: str | None, run: Callable[..., Any], pieces: Sequence[Any], asked: tuple[Any, ...]
+) -> Iterator[Any]:
     """What `run` gives of each piece, in order, by the workers of a cluster. It is called with the piece, the files of
     the case, their key, the program and what else is asked."""
     import distributed
@@ -126,13 +162,15 @@ def spread(address: str, folder: str, named: str | None, run: Callable[..., Any]
     key = hashlib.sha256(repr((sorted(files.items()), asked)).encode()).hexdigest()
     with client_of(library, address) as client, tempfile.TemporaryDirectory() as made:
         client.upload_file(package_zip(made))
-        held = client.submit(keep, files, key=f"ltm-case-{key}", retries=TRIES)
+        held = client.submit(case_files, files, key=f"ltm-case-{key}", retries=TRIES)
         try:
             program = str(find_program(named))
         except Fault:
             program = named or ""
-        futures = [client.submit(run, piece, held, key, program, *asked, pure=False, retries=TRIES, priority=-place)
-                   for place, piece in enumerate(pieces)]
+        futures = [
+            client.submit(run, piece, held, key, program, *asked, pure=False, retries=TRIES, priority=-place)
+            for place, piece in enumerate(pieces)
+        ]
         for future in futures:
             try:
                 found = future.result()

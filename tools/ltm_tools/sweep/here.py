@@ -1,51 +1,84 @@
-"""Scenarios on all processors of this machine, in sessions that each take pieces of them."""
+"""Work on all processors of this machine, by sessions that each take pieces of it."""
 from __future__ import annotations
 
 import threading
-from collections.abc import Iterator, Sequence
+from collections.abc import Callable, Iterator, Sequence
 from concurrent.futures import ThreadPoolExecutor
+from typing import Protocol, TypeVar
 
 from ..errors import Fault
-from .scenarios import Row, Runner, Scenario
+from .scenarios import Row, Runner, SweepScenario
 
 CHUNK = 8
 
 
-def chunks(found: Sequence[Scenario], size: int = CHUNK) -> list[Sequence[Scenario]]:
+class Open(Protocol):
+    """What keeps a session open."""
+
+    def close(self) -> None:
+        """Ends the session."""
+
+    def stop(self) -> None:
+        """Ends the session at once, whatever it does, and opens none again."""
+
+
+Kept = TypeVar("Kept", bound=Open)
+Piece = TypeVar("Piece")
+Found = TypeVar("Found")
+
+
+def chunks(found: Sequence[SweepScenario], size: int = CHUNK) -> list[Sequence[SweepScenario]]:
     """The scenarios in pieces, in order."""
     return [found[place : place + size] for place in range(0, len(found), size)]
 
 
-def here(folder: str, program: str, links: Sequence[str], delay: bool, pieces: Sequence[Sequence[Scenario]],
-         sessions: int) -> Iterator[list[Row]]:
+def here(
+    folder: str,
+    program: str,
+    links: Sequence[str],
+    delay: bool,
+    pieces: Sequence[Sequence[SweepScenario]],
+    sessions: int,
+) -> Iterator[list[Row]]:
     """The rows of results of each piece, in order, by so many sessions of this machine."""
-    own = threading.local()
-    runners: list[Runner] = []
 
-    def run(chunk: Sequence[Scenario]) -> list[Row]:
-        if not hasattr(own, "runner"):
-            own.runner = Runner(folder, program, links, delay)
-            runners.append(own.runner)
-        return [own.runner.run(scenario) for scenario in chunk]
+    def run(runner: Runner, piece: Sequence[SweepScenario]) -> list[Row]:
+        return [runner.run(scenario) for scenario in piece]
+
+    return in_sessions(lambda: Runner(folder, program, links, delay), run, pieces, sessions)
+
+
+def in_sessions(
+    make: Callable[[], Kept], run: Callable[[Kept, Piece], Found], pieces: Sequence[Piece], sessions: int
+) -> Iterator[Found]:
+    """What `run` gives of each piece, in order, by so many at once; each has one that `make` gives."""
+    own = threading.local()
+    kept: list[Kept] = []
+
+    def work(piece: Piece) -> Found:
+        if not hasattr(own, "kept"):
+            own.kept = make()
+            kept.append(own.kept)
+        return run(own.kept, piece)
 
     pool = ThreadPoolExecutor(sessions)
     try:
-        yield from pool.map(run, pieces)
+        yield from pool.map(work, pieces)
     except BaseException:
-        for runner in runners:
-            runner.stop()
+        for one in kept:
+            one.stop()
         raise
     finally:
         pool.shutdown(cancel_futures=True)
-    close_all(runners)
+    close_all(kept)
 
 
-def close_all(runners: Sequence[Runner]) -> None:
+def close_all(kept: Sequence[Open]) -> None:
     """Ends each session; the first Fault of them is raised when all have ended."""
     faults = []
-    for runner in runners:
+    for one in kept:
         try:
-            runner.close()
+            one.close()
         except Fault as fault:
             faults.append(fault)
     if faults:

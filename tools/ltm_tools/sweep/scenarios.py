@@ -8,40 +8,38 @@ from __future__ import annotations
 
 import json
 import os
-from collections.abc import Iterable, Iterator, Mapping, Sequence
+from collections.abc import Mapping, Sequence
+from itertools import chain
 from typing import NamedTuple
 
-from ..case import Case
-from ..case.edits import Edit
 from ..errors import Fault
 from ..files import read_text, shown
-from ..formats import MOST_EDITS, MOST_LINE_BYTES, MOST_LINES, count_text, told_units, vehicles_text
+from ..formats import MOST_EDITS, MOST_LINES, count_text, told_units, vehicles_text
 from ..loading.delay import seconds_text
 from ..loading.remaining import Remaining
-from ..loading.session import Ended, Refused, Session, line_of
-from .taking_back import Taking
+from ..scenario.edits import Horizon, Told, edit_of
+from ..scenario.open import OpenCase, SessionLost
+from ..scenario.session import Refused, Session, command_line
 
 TOTALS = ("generated", "arrived", "on_links", "waiting", "not_there")
 TIMES = ("spent", "queued", "waited")
 FAILED = "failed: "  # begins the status of a scenario whose session ended, or takes no more lines
-MOST_BATCH_BYTES = MOST_LINE_BYTES - len(line_of({"do": "edit", "edits": []}))  # of the edits of a line
 FEW = 10  # links, or one in so many, are few
-TRIES = 2  # sessions that are asked about a scenario at which they end
 Row = list[str]
 
 
-class Scenario(NamedTuple):
+class SweepScenario(NamedTuple):
     """A line of a file of scenarios: its number, counted from 1, its name, and its batches."""
 
     number: int
     name: str
-    batches: list[list[Edit]]
+    batches: list[list[Told]]
 
 
-AS_IT_IS = Scenario(0, "", [])  # the case itself, which hours are compared with
+AS_IT_IS = SweepScenario(0, "", [])  # the case itself, which hours are compared with
 
 
-def read_scenarios(path: str | os.PathLike[str]) -> list[Scenario]:
+def read_scenarios(path: str | os.PathLike[str]) -> list[SweepScenario]:
     """The scenarios of a file; a Fault that names the first line that is none. Lines of blanks are passed over."""
     found = []
     for number, line in enumerate(read_text(path).split("\n"), 1):
@@ -50,7 +48,7 @@ def read_scenarios(path: str | os.PathLike[str]) -> list[Scenario]:
     return found
 
 
-def scenario_of(line: str, number: int, place: str) -> Scenario:
+def scenario_of(line: str, number: int, place: str) -> SweepScenario:
     """The scenario that a line tells."""
     try:
         told = json.loads(line)
@@ -59,8 +57,9 @@ def scenario_of(line: str, number: int, place: str) -> Scenario:
     if not isinstance(told, dict) or ("batches" in told) == ("edits" in told):
         raise Fault(f"{place}: a scenario is an object with `batches`, or with `edits`, and a `name` or none")
     batches = told["batches"] if "batches" in told else [told["edits"]]
-    fits = isinstance(batches, list) and all(isinstance(batch, list) and all(isinstance(edit, dict) for edit in batch)
-                                             for batch in batches)
+    fits = isinstance(batches, list) and all(
+        isinstance(batch, list) and all(isinstance(edit, dict) for edit in batch) for batch in batches
+    )
     if not fits or not all(1 <= len(batch) <= MOST_EDITS for batch in batches):
         raise Fault(f"{place}: `batches` is an array of batches, and a batch an array of 1 to {MOST_EDITS} edits")
     name = str(told.get("name", ""))
@@ -68,21 +67,27 @@ def scenario_of(line: str, number: int, place: str) -> Scenario:
         raise Fault(f"{place}: the name {shown(name)} is no text")
     for batch in batches:
         try:
-            line_of({"do": "edit", "edits": batch})
+            command_line({"do": "edit", "edits": batch})
         except Fault as fault:
             raise Fault(f"{place}: {fault}") from None
-    return Scenario(number, name, batches)
+    return SweepScenario(number, name, batches)
 
 
-def header(links: Sequence[str], delay: bool = False) -> Row:
+def result_header(links: Sequence[str], delay: bool = False) -> Row:
     """The fields of a row of results, with vehicle times or not."""
-    return ["line", "name", "status", *TOTALS, *(TIMES if delay else ()),
-            *(f"{word}:{link}" for link in links for word in ("in", "out"))]
+    return [
+        "line",
+        "name",
+        "status",
+        *TOTALS,
+        *(TIMES if delay else ()),
+        *(f"{word}:{link}" for link in links for word in ("in", "out")),
+    ]
 
 
 def remaining(row: Row) -> Remaining | None:
     """Who is not there by the end, as a row of results tells it; None where it has no numbers."""
-    told: Mapping[str, str] = dict(zip(header([]), row))
+    told: Mapping[str, str] = dict(zip(result_header([]), row))
     return Remaining(told_units(told["generated"]), told_units(told["not_there"])) if told["status"] == "ok" else None
 
 
@@ -90,107 +95,76 @@ class Runner:
     """A session of a case that answers scenarios one after another, each from the case as its files have it. `links`
     are names of the case."""
 
-    MOST_ASKED = MOST_LINES  # lines that a session takes
+    MOST_LINES = MOST_LINES  # that a session takes
 
-    def __init__(self, folder: str | os.PathLike[str], program: str | os.PathLike[str] | None,
-                 links: Sequence[str] = (), delay: bool = False) -> None:
-        self.folder, self.program, self.links, self.delay = folder, program, list(links), delay
-        case = Case.read(folder)
-        self.taking, self.slots = Taking(case), case.setup.slots
-        self.asks_all = are_many(len(links), len(case.links))
-        self.lines_of_links = 1 if self.asks_all else len(links)
-        self.session: Session | None = None
-        self.made: list[Edit] = []
-        self.asked = self.opened = 0
-        self.stopped = False
+    def __init__(
+        self,
+        folder: str | os.PathLike[str],
+        program: str | os.PathLike[str] | None,
+        links: Sequence[str] = (),
+        delay: bool = False,
+    ) -> None:
+        self.links, self.delay = list(links), delay
+        self.open = OpenCase(folder, program, most_lines=self.MOST_LINES)
+        self.asks_all = are_many(len(links), len(self.open.case.links))
 
-    def run(self, scenario: Scenario) -> Row:
+    def run(self, scenario: SweepScenario) -> Row:
         """The row of results of a scenario. Where that takes more lines than a session, or its session ends, the row
         says so."""
-        lines = 1 + len(scenario.batches) + 2 + self.delay + self.lines_of_links
-        if lines > self.MOST_ASKED:
-            return self.without(scenario,
-                                f"{FAILED}it takes {count_text(lines)} lines of a session, which takes"
-                                f" {count_text(self.MOST_ASKED)}")
-        for tries in range(TRIES, 0, -1):
-            session = self.fresh(lines)
-            try:
-                return self.told(scenario, session)
-            except Ended as fault:
-                self.session = None
-                if tries == 1:
-                    return self.without(scenario, f"{FAILED}{fault}")
-        raise AssertionError("a scenario is tried at least once")
+        lines = 1 + len(scenario.batches) + 2 + self.delay + (1 if self.asks_all else len(self.links))
+        most = self.open.last_line
+        if lines > most:
+            return self.without(
+                scenario, f"{FAILED}it takes {count_text(lines)} lines of a session, which takes {count_text(most)}"
+            )
+        try:
+            return self.open.tried(lambda: self.told(scenario), lambda: self.begin(lines))
+        except SessionLost as lost:
+            return self.without(scenario, f"{FAILED}{lost}")
 
-    def told(self, scenario: Scenario, session: Session) -> Row:
+    def begin(self, lines: int) -> None:
+        """Has the session show the case as it is in its files, with room for so many lines. A fresh session is asked
+        whether the program takes the case: if not, no scenario can be run."""
+        opened = self.open.opened
+        self.open.have([], lines)
+        if self.open.opened > opened:
+            self.open.session.totals()
+
+    def told(self, scenario: SweepScenario) -> Row:
         """The row of results of a scenario by a session that shows the case."""
         for number, batch in enumerate(scenario.batches, 1):
-            self.asked += 1
             try:
-                session.edit(*batch)
+                self.open.add(batch)
             except Refused as refused:
                 return self.without(scenario, f"batch {number} {refused}")
-            self.made += batch
-        session.settle()
+        self.open.settle()
+        session = self.open.session
         totals = session.totals()
         told = [vehicles_text(units) for units in (*totals[1:], totals.on_links + totals.waiting)]
         if self.delay:
-            told += [seconds_text(time) for time in times(session)]
+            told += [seconds_text(time) for time in vehicle_times(session)]
         told += [vehicles_text(units) for units in self.passed(session)]
-        self.asked += 2 + self.delay + self.lines_of_links
         return [str(scenario.number), scenario.name, "ok", *told]
 
     def passed(self, session: Session) -> list[int]:
         """What has entered and left each of the links by the end of the horizon that is shown."""
         if not self.asks_all:
             return [units for link in self.links for units in session.link(link)[1:]]
-        end = next((int(str(edit["slots"])) for edit in reversed(self.made) if edit["kind"] == "horizon"), self.slots)
-        state = session.state(end)
+        slots = [edit.slots for edit in map(edit_of, chain(*self.open.made)) if isinstance(edit, Horizon)]
+        state = session.state(slots[-1] if slots else self.open.case.setup.slots)
         return [units for link in self.links for units in (state.entered[link], state.left[link])]
 
-    def without(self, scenario: Scenario, status: str) -> Row:
+    def without(self, scenario: SweepScenario, status: str) -> Row:
         """A row without numbers."""
-        return [str(scenario.number), scenario.name, status] + [""] * (len(header(self.links, self.delay)) - 3)
-
-    def fresh(self, lines: int) -> Session:
-        """The session with the case's own scenario, and room for so many lines: as the one before was taken back, or
-        opened anew."""
-        back = self.taking.back(self.made)
-        if self.session is not None and (back is None or self.asked + len(back) + lines > self.MOST_ASKED
-                                         or not self.take_back(back)):
-            self.close()
-        if self.session is None:
-            if self.stopped:
-                raise Ended("the scenarios were stopped")
-            self.session = Session(self.folder, 0, self.program)
-            self.session.totals()  # whether the program takes the case: if not, no scenario can be run
-            self.asked, self.opened = 1, self.opened + 1
-        self.made = []
-        return self.session
-
-    def take_back(self, back: Sequence[Edit]) -> bool:
-        """Whether the session makes the edits that set the case again."""
-        assert self.session is not None
-        try:
-            for batch in batches(back):
-                self.asked += 1
-                self.session.edit(*batch)
-        except Fault:
-            return False
-        return True
+        return [str(scenario.number), scenario.name, status] + [""] * (len(result_header(self.links, self.delay)) - 3)
 
     def close(self) -> None:
         """Ends the session."""
-        if self.session is not None:
-            session, self.session = self.session, None
-            session.close()
+        self.open.close()
 
     def stop(self) -> None:
         """Ends the session at once, whatever it does, and opens none again; another thread may be asking it."""
-        self.stopped = True
-        session, self.session = self.session, None
-        if session is not None:
-            session.process.kill()
+        self.open.stop()
 
 
 def are_many(count: int, every: int) -> bool:
@@ -198,25 +172,10 @@ def are_many(count: int, every: int) -> bool:
     return count > FEW and count * FEW > every
 
 
-def times(session: Session) -> tuple[int, int, int]:
+def vehicle_times(session: Session) -> tuple[int, int, int]:
     """The vehicle times of the loading that a session shows."""
     try:
         _, spent, queued, waited = session.delay()
     except Refused as refused:
         raise Fault(f"the sessions of this program tell no delay: {refused}") from None
     return spent, queued, waited
-
-
-def batches(made: Iterable[Edit]) -> Iterator[Sequence[Edit]]:
-    """Edits in batches of at most 32, whose lines a session takes unless one edit alone is too long."""
-    batch: list[Edit] = []
-    left = MOST_BATCH_BYTES
-    for edit in made:
-        size = len(json.dumps(edit)) + len(", ")
-        if batch and (len(batch) == MOST_EDITS or size > left):
-            yield batch
-            batch, left = [], MOST_BATCH_BYTES
-        batch.append(edit)
-        left -= size
-    if batch:
-        yield batch

@@ -1,0 +1,79 @@
+"""The relative gap of a loading: what all would save who took the best routes at its link times, in per cent of what
+they need.
+
+Times are those of routes from the origin on, the wait there included, worked out from exact link times. People choose
+for a span of slots, so the best route is that which is best in the mean over each span: nobody picks the moment in a
+signal's cycle at which a link happens to be fast. The program's own gap compares each departure with the fastest
+arrival at that very moment, and so it is larger. Only those count who arrive by the end of the horizon.
+"""
+from __future__ import annotations
+
+import math
+from typing import NamedTuple
+
+import numpy
+
+from .flows import Departures
+from .labels import Labels
+from .net import Real, Whole
+
+
+class Gap(NamedTuple):
+    """What those would save who arrive, what they need, and who they are of how many: times are thousandths of a
+    vehicle times ms, amounts thousandths of a vehicle."""
+
+    lost: float
+    spent: float
+    arriving: float
+    all: float
+
+    @property
+    def per_cent(self) -> float:
+        """What is lost in per cent of what is needed."""
+        return 100 * self.lost / self.spent if self.spent else 0.0
+
+
+def gaps(departures: Departures, moments: Whole, labels: Labels) -> list[Gap]:
+    """The gap of each destination, by the moments at which those have left an origin's queue who set out at a
+    boundary, `[slots + 1, N]`."""
+    net, at, end = labels.net, departures.at, departures.end
+    left = moments[at, departures.origin]
+    mean, best = (_label(labels, label, left, departures) for label in (labels.means, labels.bests))
+    arrives = mean <= net.slots * net.step
+    amount = numpy.where(arrives, departures.amount, 0.0)
+    lost, spent = amount * (mean - best), amount * (mean - at * net.step)
+    spans = labels.spans.of[numpy.minimum(at, net.slots - 1)]
+    group = (end * len(labels.spans) + spans) * len(net.node_names) + departures.origin
+    found = []
+    for place in range(len(net.end_names)):
+        chosen = end == place
+        of_group = sums_by(group[chosen], lost[chosen])
+        found.append(
+            Gap(
+                math.fsum(numpy.maximum(of_group, 0.0).tolist()),
+                math.fsum(spent[chosen].tolist()),
+                math.fsum(amount[chosen].tolist()),
+                math.fsum(departures.amount[chosen].tolist()),
+            )
+        )
+    return found
+
+
+def together(parts: list[Gap]) -> Gap:
+    """The gap of several destinations."""
+    return Gap(*(math.fsum(numbers) for numbers in zip(*parts)))
+
+
+def sums_by(group: Whole, amounts: Real) -> Real:
+    """The sums of amounts by group."""
+    _, number = numpy.unique(group, return_inverse=True)
+    return numpy.asarray(numpy.bincount(number, amounts), dtype=numpy.float64)
+
+
+def _label(labels: Labels, label: Whole, left: Whole, departures: Departures) -> Real:
+    """A label at the moments at which origins' queues are left."""
+    net = labels.net
+    boundary = numpy.minimum(left // net.step, net.slots)
+    part = (left - boundary * net.step) / net.step
+    low, high = (label[boundary + later, departures.origin, departures.end] for later in (0, 1))
+    return numpy.asarray(low + (high - low) * part)
