@@ -1,0 +1,1 @@
+"""What more and less capacity is worth."""
