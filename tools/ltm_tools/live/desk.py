@@ -8,23 +8,26 @@ from __future__ import annotations
 import asyncio
 import logging
 import time
-from collections.abc import Callable, Sequence
+from collections.abc import Callable, Iterable, Sequence
 from concurrent.futures import ThreadPoolExecutor
 from dataclasses import replace
 from functools import partial
 from typing import Protocol, TypeVar
 
 from ..errors import Fault
-from ..loading.session import Ended
+from ..scenario.session import Ended
+from .asks import Members
+from .changing import Changing
 from .entries import Entry
 from .hearing import Question, Seekers, question_of
-from .kept import Script
-from .messages import Make, Told, told_delays, told_list, told_totals
+from .kept import Script, kept_of, page_of
+from .messages import Make, Told, told_curve, told_delays, told_list, told_totals
 from .scenario import Scenario
+from .strip import Strip
 
 Done = TypeVar("Done")
 TRIED_AGAIN = 1.0  # seconds
-OURS = "a fault of the server, told on its standard error"
+OURS = "The change was not made because of a fault of the server, which is on its standard error."
 LOG = logging.getLogger(__name__)
 
 
@@ -49,8 +52,10 @@ class Desk:
         self.scenario, self.script = scenario, script
         self.jobs: asyncio.Queue[tuple[Browser, Make] | None] = asyncio.Queue()
         self.browsers: set[Browser] = set()
-        self.thread, self.seekers = ThreadPoolExecutor(1, "scenario"), Seekers(scenario)
+        self.thread, self.beside = ThreadPoolExecutor(1, "scenario"), ThreadPoolExecutor(1, "pages")
+        self.seekers = Seekers(scenario)
         self.tasks: set[asyncio.Task[None]] = set()  # for which shares are sought
+        self.changing, self.strip = Changing(scenario, script), Strip(scenario)
         self.costs: Told = {}
         self.base: Told = {}
         self.ready, self.stale = False, False  # whether the base is there; whether the list is not settled yet
@@ -59,24 +64,44 @@ class Desk:
         """Has the one thread do something with the scenario."""
         return await asyncio.get_running_loop().run_in_executor(self.thread, work)
 
+    async def page(self, told: Members) -> bytes:
+        """The scenario as a page, made beside all else, so that no map stands still meanwhile."""
+        costs = self.costs.get("costs")
+        kept = await self.call(partial(kept_of, self.scenario, costs if isinstance(costs, dict) else {}, told))
+        return await asyncio.get_running_loop().run_in_executor(self.beside, partial(page_of, kept))
+
     def tell(self, told: Told) -> None:
         """Tells all browsers something."""
         for browser in self.browsers:
             browser.send(told)
+
+    def tell_once(self, told: Told | None) -> None:
+        """Tells all browsers something, where there is anything."""
+        if told is not None:
+            self.tell(told)
 
     def look(self) -> None:
         """Has the browsers shown what they want, once all is done that came before."""
         if self.jobs.empty():
             self.jobs.put_nowait(None)
 
-    def told(self) -> list[Told]:
-        """What a browser is told that has just come: the list, and what it all costs."""
-        return [self.told_list(), *([self.costs] if self.costs else [])]
+    def told(self, browser: Browser) -> list[Told]:
+        """What a browser is told that has just come: the list, and its effect."""
+        self.tell_list([browser])
+        return [told for told in (self.costs, self.strip.told, self.changing.scenes.told()) if told]
 
-    def told_list(self) -> Told:
+    def tell_list(self, browsers: Iterable[Browser], **more: object) -> None:
+        """Tells browsers the list, and whether each may undo and redo."""
         scenario = self.scenario
-        return {"list": told_list(scenario.entries, scenario.slots), "ready": self.ready,
-                "revision": scenario.revision}
+        told: Told = {
+            "list": told_list(scenario.entries, scenario.slots),
+            "ready": self.ready,
+            "revision": scenario.revision,
+            **more,
+        }
+        for browser in browsers:
+            undo, redo = self.changing.history.can(browser.name)
+            browser.send({**told, "undo": undo, "redo": redo})
 
     async def begin(self) -> None:
         """Fetches the base, then makes what the script has."""
@@ -92,7 +117,7 @@ class Desk:
         await self.count()
         for browser in self.browsers:
             browser.wanted = True
-        self.tell(self.told_list())
+        self.tell_list(self.browsers)
         await self.show()
 
     async def work(self) -> None:
@@ -100,10 +125,13 @@ class Desk:
         if not self.ready:
             await self.begin()
         while True:
-            jobs = [await self.jobs.get()]
-            while not self.jobs.empty():
-                jobs.append(self.jobs.get_nowait())
             try:
+                if self.jobs.empty() and not self.stale and self.strip.is_due:
+                    self.tell_once(await self.call(self.strip.more))
+                    continue
+                jobs = [await self.jobs.get()]
+                while not self.jobs.empty():
+                    jobs.append(self.jobs.get_nowait())
                 await self.do([job for job in jobs if job is not None])
             except Ended as ended:
                 await self.reopen(ended)
@@ -116,6 +144,8 @@ class Desk:
         before, changed = self.scenario.entries, False
         try:
             for browser, make in jobs:
+                if make.what in ("keep", "drop"):
+                    continue
                 if make.is_sought:
                     await self.seek(browser, make)
                 else:
@@ -126,22 +156,35 @@ class Desk:
             await self.show()
             if anew:
                 await self.count()
+            for browser, make in jobs:
+                self.keep(browser, make)
             await self.call(self.scenario.renew)
         finally:
             for browser, _ in jobs:
                 browser.pending -= 1
+
+    def keep(self, browser: Browser, make: Make) -> None:
+        """Keeps what is shown under a name, or removes what was kept, where that is asked for."""
+        costs = self.costs.get("costs")
+        try:
+            if self.changing.keep(make, costs if isinstance(costs, dict) else {}):
+                self.tell(self.changing.scenes.told())
+        except Fault as fault:
+            self.refuse(browser, make, fault)
 
     async def make(self, browser: Browser, make: Make) -> bool:
         """Makes one change of the list, and has the script written: whether it was made."""
         before = self.scenario.entries
         for last in (False, True):
             try:
-                await self.call(partial(self.change, browser.name, make))
+                await self.call(partial(self.changing.change, browser.name, make))
                 return True
             except Ended as ended:
                 await self.reopen(ended)
                 if last:
-                    browser.send({"refused": "the program ended at it twice", "at": make.at})
+                    browser.send(
+                        {"refused": "The program ended twice at this change, which was not made.", "at": make.at}
+                    )
             except Fault as fault:
                 if self.scenario.entries is not before:  # it was made, and could not be written
                     await self.call(partial(self.scenario.change, before))
@@ -167,8 +210,9 @@ class Desk:
     async def found(self, browser: Browser, make: Make, question: Question) -> None:
         """Has a closure made once the shares are found of those who hear of it."""
         try:
-            found = await self.seekers.found((browser, make.at), question,
-                                             lambda told: browser.send({**told, "at": make.at}))
+            found = await self.seekers.found(
+                (browser, make.at), question, lambda told: browser.send({**told, "at": make.at})
+            )
         except Exception as error:
             browser.pending -= 1
             self.refuse(browser, make, error)
@@ -187,24 +231,6 @@ class Desk:
         self.seekers.close()
         self.scenario.close()
 
-    def change(self, by: str, make: Make) -> None:
-        """Makes one change of the list, and has it on disk where there is a script."""
-        scenario = self.scenario
-        if make.found is not None:
-            scenario.add(by, make.edit, make.found.edits, make.found.before)
-        elif make.what == "edit":
-            scenario.add(by, make.edit)
-        elif make.what == "undo":
-            scenario.undo(make.number)
-        else:
-            scenario.switch(make.number, make.on)
-        self.write()
-
-    def write(self) -> None:
-        """Has the list on disk where there is a script."""
-        if self.script is not None:
-            self.script.write(self.scenario.entries)
-
     async def settle(self, before: list[Entry], sought: float = 0.0) -> None:
         """Settles, and tells the list, and for how many seconds shares were sought; where the program ends at it twice,
         the list becomes that of before."""
@@ -217,20 +243,20 @@ class Desk:
             except Ended as ended:
                 if tries == 1:
                     self.scenario.entries = before
-                    self.tell({"refused": "the program ended twice at what was changed last, which is taken back"})
-                    await self.call(self.write)
+                    self.tell({"refused": "The program ended twice at the last change, which was removed."})
+                    await self.call(self.changing.write)
                 elif tries == 2:
                     raise
                 await self.reopen(ended)
         for browser in self.browsers:
             browser.wanted = True
         took = round(1e3 * (time.perf_counter() - began), 2)
-        self.tell({**self.told_list(), "recomputed": settled.recomputed, "ms": took,
-                   **({"sought": round(sought, 1)} if sought else {})})
+        more: Told = {"sought": round(sought, 1)} if sought else {}
+        self.tell_list(self.browsers, recomputed=settled.recomputed, ms=took, **more)
 
     async def reopen(self, ended: Ended) -> None:
         """Opens the program anew, and makes the list again, which is to be settled; tries that until it can."""
-        self.tell({"notice": "the program ended, and is opened anew with the same list"})
+        self.tell({"notice": "The program ended. It is being started again with the same list."})
         LOG.warning("%s", ended)
         told, self.stale = "", True
         while True:
@@ -239,7 +265,7 @@ class Desk:
             except (Fault, OSError) as fault:
                 if str(fault) != told:
                     told = str(fault)
-                    self.tell({"notice": f"there is no loading: {told}. The list can still be kept as a script."})
+                    self.tell({"notice": f"There is no loading: {told}. You can still save the list as a script."})
                 await asyncio.sleep(TRIED_AGAIN)
 
     async def count(self) -> None:
@@ -261,20 +287,4 @@ class Desk:
             wanted = (self.scenario.revision, browser.picked)
             if self.ready and browser.picked is not None and browser.shown != wanted:
                 browser.shown = wanted
-                browser.send(await self.call(partial(self.curve, *browser.picked)))
-
-    def curve(self, kind: str, name: str) -> Told:
-        """The curves of a link or an origin, now and in the base, and of a link its free-flow time in both, in ms; of
-        an approach those of its links."""
-        scenario = self.scenario
-        if kind == "approach":
-            parts: list[Told] = [self.curve("link", link) for link in scenario.approaches[name]]
-            return {"curve": name, "kind": kind, "parts": parts, "revision": scenario.revision}
-        if kind == "node":
-            now = scenario.departures(name)
-            return {"curve": name, "kind": kind, "now": now, "base": scenario.base.departures.get(name, now),
-                    "revision": scenario.revision}
-        link = scenario.links[name]
-        return {"curve": name, "kind": kind, "now": scenario.curve(name), "base": scenario.base.link(link),
-                "free": [scenario.link(name).free_ms, scenario.case.links[link].free_ms],
-                "kmh": scenario.link(name).free_kmh, "revision": scenario.revision}
+                browser.send(await self.call(partial(told_curve, self.scenario, *browser.picked)))

@@ -11,7 +11,7 @@ from array import array
 from collections.abc import Iterable, Sequence
 from typing import NamedTuple
 
-from ..loading.answers import parts
+from ..loading.answers import answer_parts
 
 MOST_BYTES = 64 << 20  # of frames that are kept
 
@@ -34,12 +34,16 @@ class Boundary(NamedTuple):
 
 def boundary_of(words: Sequence[str]) -> Boundary:
     """The answer to `state`. What passes or stands on a link in a horizon fits in 32 bits, who waits may not."""
-    entered, left, queue, waiting = parts(words, 4, "in", "out", "queue", "waiting")
-    return Boundary(array("I", map(int, entered)), array("I", map(int, left)), array("I", map(int, queue)),
-                    array("Q", map(int, waiting)))
+    entered, left, queue, waiting = answer_parts(words, 4, "in", "out", "queue", "waiting")
+    return Boundary(
+        array("I", map(int, entered)),
+        array("I", map(int, left)),
+        array("I", map(int, queue)),
+        array("Q", map(int, waiting)),
+    )
 
 
-class Base:
+class BaseLoading:
     """The loading of the case itself, boundary by boundary as they are asked for in order, and the curves of its
     origins."""
 
@@ -74,7 +78,9 @@ class Kept:
         return self.frames.get((revision, boundary))
 
     def put(self, revision: int, boundary: int, made: bytes) -> None:
-        """Keeps a frame, and lets go of the oldest ones where they are too many."""
+        """Keeps a frame, and lets go of those of other revisions, and of the oldest ones where they are too many."""
+        if any(of != revision for of, _ in self.frames):
+            self.frames, self.bytes = {}, 0
         self.frames[revision, boundary] = made
         self.bytes += len(made)
         while self.bytes > self.most and len(self.frames) > 1:

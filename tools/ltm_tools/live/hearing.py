@@ -10,17 +10,18 @@ from concurrent.futures import ThreadPoolExecutor
 from dataclasses import dataclass
 from functools import partial
 
-from ..case.edits import Edit
-from ..case.keeping import case_of
 from ..errors import Fault
 from ..libraries import PACKAGES, missing
+from ..scenario.batches import Batch
+from ..scenario.edits import Edit
+from ..scenario.versions import case_at
 from .asks import Ask, Members, ask_of
-from .entries import Batch
+from .entries import Effect
 from .scenario import Before, Scenario
 
 NEEDS = ("numpy",)
 ROUNDS = 8  # of loadings, of which that is taken with which those who hear of it lose least
-STOPPED = "stopped, and nothing is changed"
+STOPPED = "Stopped: nothing was changed."
 
 
 @dataclass(frozen=True, slots=True)
@@ -34,10 +35,11 @@ class Question:
 
 @dataclass(frozen=True, slots=True)
 class Found:
-    """The shares of those who hear of a closure, as edits; the entries for which they were found, and the seconds that
-    it took."""
+    """The shares of those who hear of a closure, as edits, and their effect; the entries for which they were found, and
+    the seconds that it took."""
 
     edits: list[Edit]
+    effect: Effect
     before: Before
     seconds: float
 
@@ -50,21 +52,21 @@ def lacking() -> str:
 def question_of(scenario: Scenario, told: Members) -> Question:
     """What is to be found for a closure that a browser asks for; a Fault where it is refused."""
     if lacking():
-        raise Fault(f"other ways are sought with {lacking()}, which is not there")
-    return Question(ask_of(told, scenario.case), scenario.batches(), scenario.standing())
+        raise Fault(f"Other routes are sought with {lacking()}, which is not installed.")
+    return Question(ask_of(told, scenario.case, scenario.known), scenario.batches(), scenario.standing())
 
 
-def edits_for(scenario: Scenario, question: Question, done: Callable[[int], object]) -> list[Edit]:
-    """The edits of shares by which those go who hear of a closure. `done` is called before each round with how many are
-    done."""
-    from ..assign.assigning import Options
+def sought(scenario: Scenario, question: Question, done: Callable[[int], object]) -> tuple[list[Edit], Effect]:
+    """The edits of shares by which informed drivers go, and their effect. `done` is called before each round with how
+    many are done."""
+    from ..assign.assigning import AssignOptions
     from ..assign.closing import Closure, respond
 
-    ask = question.ask
+    ask, options = question.ask, AssignOptions(iterations=ROUNDS)
     scenario.unchanged()
-    case = case_of(scenario.folder, question.batches)
-    return respond(case, Closure(ask.link, ask.first, ask.end), ask.informed, Options(iterations=ROUNDS),
-                   scenario.program, done).edits
+    case, closure = case_at(scenario.folder, question.batches), Closure(ask.link, ask.first, ask.end)
+    found = respond(case, closure, ask.informed, options, scenario.program, done)
+    return found.edits, Effect(found.open, found.cost.alone, found.cost.spent)
 
 
 class Seekers:
@@ -88,8 +90,8 @@ class Seekers:
 
         done(0)
         try:
-            edits = await loop.run_in_executor(self.thread, partial(edits_for, self.scenario, question, done))
-            return Found(edits, question.before, time.perf_counter() - began)
+            edits, effect = await loop.run_in_executor(self.thread, partial(sought, self.scenario, question, done))
+            return Found(edits, effect, question.before, time.perf_counter() - began)
         finally:
             self.stops.pop(key, None)
 

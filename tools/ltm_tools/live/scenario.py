@@ -10,22 +10,22 @@ from collections.abc import Sequence
 from dataclasses import replace
 from itertools import count
 
-from ..case import Case, Link
-from ..case.edits import Edit
+from ..case import Link
+from ..case.source import approach_heads, approaches_of
+from ..case.streets import read_streets
 from ..errors import Fault
 from ..formats import MOST_LINES
 from ..loading.answers import AllDelays, Settled, Totals
-from ..loading.session import Refused, Session
-from ..network.source import approaches_of
-from ..sweep.taking_back import Taking
-from .asks import Members, ask_of
-from .entries import Batch, Entry, batches_of, in_batches
-from .frames import Base, Boundary, Kept, boundary_of, frame
-from .standing import Own
+from ..scenario.batches import Batch
+from ..scenario.edits import Diagram, Edit, Horizon, Told, edit_of
+from ..scenario.open import OpenCase
+from ..scenario.session import Refused, Session
+from .asks import Known, Members, ask_of
+from .entries import Effect, Entry, batches_of
+from .frames import BaseLoading, Boundary, Kept, boundary_of, frame
 
 ROOM = 5_000  # lines that a session has left when it is opened anew, or a quarter of all where that is less
 PIECE = 50  # boundaries of the base that are asked for at a time
-DIAGRAM = ("length_m", "free_kmh", "wave_kmh", "jam_per_km")
 Before = tuple[tuple[int, bool], ...]
 OLD = "the program's sessions do not answer `state`, `curve` and `delays`: a newer ltm is needed"
 
@@ -33,23 +33,26 @@ OLD = "the program's sessions do not answer `state`, `curve` and `delays`: a new
 class Scenario:
     """A scenario of a case, and the loading that it has. It is a context manager that ends its session."""
 
-    def __init__(self, folder: str | os.PathLike[str], program: str | os.PathLike[str] | None = None, start: int = 0,
-                 most_lines: int = MOST_LINES) -> None:
+    def __init__(
+        self,
+        folder: str | os.PathLike[str],
+        program: str | os.PathLike[str] | None = None,
+        start: int = 0,
+        most_lines: int = MOST_LINES,
+    ) -> None:
         self.folder, self.program, self.start = os.fspath(folder), program, start
-        self.last_line = most_lines - min(ROOM, most_lines // 4)
-        self.case = Case.read(folder)
-        self.taking, self.own = Taking(self.case), Own(self.case)
+        self.open = OpenCase(folder, program, most_lines=most_lines, spare=min(ROOM, most_lines // 4))
+        self.case = self.open.case
         self.slots, self.step = self.case.setup.slots, self.case.setup.step_ms
         self.links = {link.name: place for place, link in enumerate(self.case.links)}
         self.nodes = {node: place for place, node in enumerate(self.case.nodes)}
         self.approaches = approaches_of(self.folder, self.case.links)
+        self.known = Known(self.approaches, self.crossings(), read_streets(self.folder))
         self.origins = list(dict.fromkeys(row.origin for row in self.case.standing_demand()))
         self.entries: list[Entry] = []
-        self.made: list[Batch] = []  # in the session, in order
         self.numbers = count(1)
-        self.revision, self.lines = 0, 0
-        self.base, self.kept = Base(), Kept()
-        self.session = Session(self.folder, 0, self.program)
+        self.revision = 0
+        self.base, self.kept = BaseLoading(), Kept()
         try:
             self.base_delays, self.base_totals = self.delays(), self.totals()
         except Refused:
@@ -64,12 +67,12 @@ class Scenario:
 
     def close(self) -> None:
         """Ends the session."""
-        self.session.kill()
+        self.open.kill()
 
-    def ask(self, **command: object) -> list[str]:
-        """The words of the answer to a question."""
-        self.lines += 1
-        return self.session.ask(**command)
+    @property
+    def session(self) -> Session:
+        """The session that shows the list."""
+        return self.open.session
 
     # ---- what is shown
 
@@ -87,7 +90,7 @@ class Scenario:
 
     def boundary(self, boundary: int) -> Boundary:
         """All links and nodes at a boundary."""
-        return boundary_of(self.ask(do="state", slot=boundary))
+        return boundary_of(self.session.ask(do="state", slot=boundary))
 
     def frame(self, boundary: int) -> bytes:
         """The frame of a boundary: see the module `frames`."""
@@ -100,30 +103,25 @@ class Scenario:
 
     def curve(self, name: str) -> tuple[Sequence[int], Sequence[int]]:
         """What has entered and left a link by each boundary."""
-        self.lines += 1
         told = self.session.curve(name)
         return told.entered, told.left
 
     def departures(self, node: str) -> tuple[Sequence[int], Sequence[int]]:
         """What has been produced at a node by each boundary, and what has left it."""
-        self.lines += 1
         told = self.session.departures(node)
         return told.produced, told.left
 
     def delays(self) -> AllDelays:
         """The vehicle time of all, of each link and of each node."""
-        self.lines += 1
         return self.session.delays()
 
     def totals(self) -> Totals:
         """The totals at the end of the horizon."""
-        self.lines += 1
         return self.session.totals()
 
     def settle(self) -> Settled:
         """Shows what the list leaves."""
-        self.lines += 1
-        settled = self.session.settle()
+        settled = self.open.settle()
         self.revision += 1
         return settled
 
@@ -133,22 +131,31 @@ class Scenario:
         """The batches of all entries that are on, in order."""
         return [batch for entry in self.entries for batch in entry.batches]
 
-    def add(self, by: str, told: Members, heard: Sequence[Edit] = (), before: Before | None = None) -> Entry:
+    def add(
+        self,
+        by: str,
+        told: Members,
+        heard: Sequence[Edit] = (),
+        before: Before | None = None,
+        effect: Effect | None = None,
+    ) -> Entry:
         """Adds an entry of what a browser asks for, with the shares of those who hear of it; behind the entries for
         which these were found, where that is told. A Fault where it is refused, and nothing is changed."""
-        ask = ask_of(told, self.case)
-        if before is not None and self.standing()[:len(before)] != before:
-            raise Fault("an earlier change was taken back or switched meanwhile: ask for it again")
-        return self._put(Entry(0, by, ask.text(self.start, self.step), ask=ask, heard=list(heard)),
-                         None if before is None else len(before))
+        ask = ask_of(told, self.case, self.known)
+        if before is not None and self.standing()[: len(before)] != before:
+            raise Fault("An earlier change was removed or switched meanwhile. Ask for this one again.")
+        return self._put(
+            Entry(0, by, ask.text(self.start, self.step), ask=ask, heard=list(heard), effect=effect),
+            None if before is None else len(before),
+        )
 
     def standing(self) -> Before:
         """The numbers of the entries, and whether each is on."""
         return tuple((entry.number, entry.on) for entry in self.entries)
 
-    def add_line(self, by: str, text: str, line: Batch, source: bytes | None = None) -> Entry:
+    def add_line(self, by: str, text: str, line: list[Told], source: bytes | None = None) -> Entry:
         """Adds an entry of the edits of a line of a script; a Fault where it is refused, and nothing is changed."""
-        if any(edit["kind"] == "horizon" for edit in line):
+        if any(isinstance(edit_of(edit), Horizon) for edit in line):
             raise Fault("a live scenario has the slots of its case: give them in setup.csv")
         return self._put(Entry(0, by, text, line=line, source=source))
 
@@ -163,6 +170,26 @@ class Scenario:
         self._entry(number)
         self.change([entry for entry in self.entries if entry.number != number])
 
+    def amend(self, number: int, told: Members) -> None:
+        """Makes an entry another change, in its place; a Fault where it cannot be, as with routes that were found for
+        what it was."""
+        entry = self._entry(number)
+        ask = ask_of(told, self.case, self.known)
+        if entry.heard or ask.informed:
+            raise Fault("Routes were found for this closure as it is. Remove it, and ask for another.")
+        self.put(replace(entry, ask=ask, text=ask.text(self.start, self.step), line=None, source=None))
+
+    def put(self, entry: Entry) -> None:
+        """Puts an entry in the place of the one that has its number."""
+        self._entry(entry.number)
+        self.change([entry if one.number == entry.number else one for one in self.entries])
+
+    def restore(self, entry: Entry, place: int) -> None:
+        """Puts an entry back that was in the list before; a Fault where it is there, or does not stand any more."""
+        if any(one.number == entry.number for one in self.entries):
+            raise Fault("This change is in the list already.")
+        self.change([*self.entries[:place], entry, *self.entries[place:]])
+
     def switch(self, number: int, on: bool) -> None:
         """Switches an entry on or off, and leaves it in its place."""
         self._entry(number)
@@ -173,72 +200,50 @@ class Scenario:
         for entry in self.entries:
             if entry.number == number:
                 return entry
-        raise Fault("this change was taken back already")
+        raise Fault("This change was removed already.")
 
     def change(self, entries: list[Entry]) -> None:
         """Makes another list the scenario's; where a batch is refused, a Fault, and the list stays as it was."""
-        found = batches_of(self.case, self.own, entries)
+        found = batches_of(self.case, self.open.own, entries)
         made = [replace(entry, batches=batches) for entry, batches in zip(entries, found)]
         last = made[-1] if len(made) > len(self.entries) else None
         if last is not None and not last.batches and last.on:
-            raise Fault(f"{last.text}: that changes nothing")
+            raise Fault(f"{last.text}: this changes nothing.")
         try:
-            self._show([batch for entry in made for batch in entry.batches])
+            self.open.have([batch for entry in made for batch in entry.batches])
         except Refused as refused:
-            self._show(self.batches())
+            self.open.have(self.batches())
             raise Fault(str(refused)) from None
         self.entries = made
 
-    def _show(self, batches: list[Batch]) -> None:
-        """Has exactly these batches in the session: those that it lacks where it has a front of them; else those that
-        it has are taken back by edits, or the session opened anew where no edits do that or its lines are used."""
-        if batches[:len(self.made)] != self.made:
-            back = self.taking.back(edit for batch in self.made for edit in batch)
-            if back is None or self.lines + len(back) + len(batches) > self.last_line:
-                self._anew()
-            else:
-                self._make(list(in_batches(back)))
-                self.made = []
-        elif self.lines + len(batches) > self.last_line:
-            self._anew()
-        self._make(batches[len(self.made):])
-
-    def _make(self, batches: list[Batch]) -> None:
-        for batch in batches:
-            self.lines += 1
-            self.session.edit(*batch)
-            self.made.append(batch)
-
-    def _anew(self) -> None:
-        """Another session in the place of this one, without edits; a Fault where the files of the case have changed
-        since they were read."""
-        self.unchanged()
-        self.close()
-        self.session, self.made, self.lines = Session(self.folder, 0, self.program), [], 0
-
     def unchanged(self) -> None:
         """A Fault where the files of the case have changed since they were read."""
-        if Case.read(self.folder) != self.case:
-            raise Fault(f"the files of {self.folder} have changed since it was opened: open it anew to see them")
+        self.open.unchanged()
 
     def recover(self) -> None:
         """Opens the session anew, as after it has ended, and makes the list again, to be settled."""
-        self._anew()
-        self._show(self.batches())
+        self.open.kill()
+        self.open.have(self.batches())
 
     def renew(self) -> None:
         """Opens the session anew where its lines are nearly used, before it would end."""
-        if self.lines > self.last_line:
-            self.recover()
-            self.session.settle()
+        if not self.open.has_room(1):
+            self.open.renew()
 
-    # ---- what links are now
+    # ---- what links and crossings are
+
+    def crossings(self) -> dict[str, tuple[str, ...]]:
+        """The crossings of the source by name, each with the turns that lead over it."""
+        found: dict[str, tuple[str, ...]] = {}
+        for road, node in approach_heads(self.folder, self.case.links).items():
+            found[node] = (*found.get(node, ()), *self.approaches[road][1:])
+        return found
 
     def link(self, name: str) -> Link:
         """A link as the list leaves it."""
         link = self.case.links[self.links[name]]
         for entry in self.entries:
             for edit in (edit for batch in entry.batches for edit in batch):
-                if edit["kind"] == "diagram" and edit["link"] == name:
-                    link = replace(link, **{field: edit[field] for field in DIAGRAM})
+                if isinstance(edit, Diagram) and edit.link == name:
+                    link = replace(link, **edit.of_link)
         return link

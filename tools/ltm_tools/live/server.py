@@ -2,12 +2,10 @@
 from __future__ import annotations
 
 import asyncio
-import os
-from collections.abc import Callable
-from dataclasses import dataclass
+from collections.abc import Callable, Iterator
+from dataclasses import dataclass, field
 from functools import partial
 from itertools import count
-from pathlib import Path
 from typing import Any
 
 import tornado.httpserver
@@ -17,41 +15,28 @@ import tornado.web
 import tornado.websocket
 
 from ..errors import Fault
-from ..files import read_text, readable
-from ..show.network import numbered, placed, told_network
-from ..show.page import SHARED_SCRIPTS, WEB as SHARED, find_d3
+from .asks import Members
 from .desk import Desk
-from .guard import ADDRESS, MOST_BROWSERS, MOST_MESSAGE, MOST_PENDING, SECONDS_FOR_TOKEN, Guard
-from .hearing import lacking
-from .kept import case_zip, page_of, script_of
-from .messages import Make, Told, boundary_of, choices_of, make_of, object_of, picked_of, text_of, whole_of
+from .guard import (
+    ADDRESS,
+    MOST_BROWSERS,
+    MOST_CONNECTIONS,
+    MOST_MESSAGE,
+    MOST_PENDING,
+    SECONDS_FOR_BODY,
+    SECONDS_FOR_TOKEN,
+    Guard,
+)
+from .kept import case_zip, script_bytes
+from .messages import Make, Told, asked_boundary, make_of, object_of, picked_of, text_of, whole_number_of
 from .scenario import Scenario
+from .welcome import files, hello
 
-WEB = Path(__file__).resolve().parent / "web"
-FILES = {"/": "live.html", "/live.css": "live.css"}
-SCRIPTS = ("edits.js", "tables.js", "live.js")
-KINDS = {"html": "text/html", "css": "text/css", "js": "text/javascript"}
+READ_ONLY = "This address only shows the live map. Ask for the other one to change it."
+TOO_MANY = "Too many changes are waiting. Try again when some are done."
+FETCHING = "The base is still being fetched. Try again in a moment."
 PAUSE = 20  # seconds between pings
-
-
-def files(d3: str | None) -> dict[str, tuple[str, str]]:
-    """The text of each file that is served, and its kind, by its path."""
-    named = {**{path: WEB / name for path, name in FILES.items()}, "/shared.css": SHARED / "shared.css",
-             **{f"/{name}": WEB / name for name in SCRIPTS}, **{f"/{name}": SHARED / name for name in SHARED_SCRIPTS}}
-    texts = {path: (read_text(file), KINDS[file.suffix[1:]]) for path, file in named.items()}
-    return {**texts, "/d3.js": (find_d3(d3), "text/javascript")}
-
-
-def hello(scenario: Scenario) -> Told:
-    """What a browser is told of the case."""
-    case = scenario.case
-    (places,), bent = placed([scenario.folder], [case])
-    return {"name": readable(os.path.basename(os.path.abspath(scenario.folder))), "step": scenario.step,
-            "slots": scenario.slots, "start": scenario.start, **told_network(scenario.folder, case, places, bent),
-            "kmh": [link.free_kmh for link in case.links],
-            "capacity": [link.capacity(3_600_000) for link in case.links],
-            "origins": [case.nodes.index(node) for node in scenario.origins], "choices": choices_of(case),
-            "approaches": numbered(case, scenario.approaches), "hears": not lacking()}
+MOST_WINDOWS, MOST_WINDOW_NAME = 1_000, 64  # whose names are kept, and signs of what a window calls itself
 
 
 @dataclass(slots=True)
@@ -62,11 +47,20 @@ class Site:
     desk: Desk
     hello: Told
     sockets: int = 0
-    names: Any = None
+    names: dict[str, str] = field(default_factory=dict)
+    numbers: Iterator[int] = field(default_factory=partial(count, 1))
+
+    def name_of(self, window: object) -> str:
+        """What a browser is called: one that says which window it is, as it was called before."""
+        if not isinstance(window, str) or len(window) > MOST_WINDOW_NAME or len(self.names) >= MOST_WINDOWS:
+            return f"browser {next(self.numbers)}"
+        if window not in self.names:
+            self.names[window] = f"browser {next(self.numbers)}"
+        return self.names[window]
 
 
 class Guarded(tornado.web.RequestHandler):
-    """Answers whom the guard lets in, and no one else."""
+    """Answers whom the guard lets in, and no one else; a body is read of those alone who have the token."""
 
     site: Site
 
@@ -74,8 +68,19 @@ class Guarded(tornado.web.RequestHandler):
         self.site = site
 
     def prepare(self) -> None:
+        if self.request.connection is not None and {"Content-Length", "Transfer-Encoding"} & set(self.request.headers):
+            self.bound_body(self.request.connection)
         if not self.site.guard.is_for_us(self.request.host, self.request.headers):
             self.refuse()
+
+    def bound_body(self, connection: Any) -> None:
+        """Bounds what is read of a body, and for how long; without the token nothing of it is."""
+        known = self.site.guard.knows(self.request.headers.get("X-Token"))
+        connection.set_max_body_size(MOST_MESSAGE if known else 0)
+        connection.set_body_timeout(SECONDS_FOR_BODY)
+
+    def data_received(self, chunk: bytes) -> None:
+        self.body = getattr(self, "body", b"") + chunk
 
     def refuse(self) -> None:
         self.set_status(403)
@@ -86,6 +91,7 @@ class Guarded(tornado.web.RequestHandler):
             self.set_header(name, value)
 
 
+@tornado.web.stream_request_body
 class File(Guarded):
     """A file of the page; none tells anything of the case."""
 
@@ -98,6 +104,7 @@ class File(Guarded):
         self.finish(self.text)
 
 
+@tornado.web.stream_request_body
 class KeptFile(Guarded):
     """The scenario as a script, a case or a page, for a page of ours that has the token."""
 
@@ -107,10 +114,12 @@ class KeptFile(Guarded):
         if not (guard.knows(headers.get("X-Token")) and guard.is_ours(headers.get("Origin"))):
             self.refuse()
             return
-        make: Callable[[Scenario], bytes] = {"script.jsonl": lambda scenario: script_of(scenario.entries),
-                                             "case.zip": case_zip, "page.html": page_of}[name]
         try:
-            made = await desk.call(partial(make, desk.scenario))
+            if name == "page.html":
+                made = await desk.page(object_of(getattr(self, "body", b"") or b"{}"))
+            else:
+                make: Callable[[Scenario], bytes] = case_zip if name == "case.zip" else script_bytes
+                made = await desk.call(partial(make, desk.scenario))
         except (Fault, OSError) as fault:
             self.set_status(409)
             made = str(fault).encode("utf-8", "replace")
@@ -124,7 +133,7 @@ class Socket(Guarded, tornado.websocket.WebSocketHandler):
     name, boundary, wanted, pending = "", 0, False, 0
     picked: tuple[str, str] | None = None
     shown: tuple[int, tuple[str, str] | None] = (-1, None)
-    known, counted = False, False
+    known, counted, may_change = False, False, False
     waits: object = None
 
     def check_origin(self, origin: str) -> bool:
@@ -136,11 +145,6 @@ class Socket(Guarded, tornado.websocket.WebSocketHandler):
             self.refuse()
 
     def open(self, *_: str, **__: str) -> None:
-        if self.site.sockets >= MOST_BROWSERS:
-            self.close(1013, "too many browsers")
-            return
-        self.site.sockets += 1
-        self.counted = True
         self.waits = tornado.ioloop.IOLoop.current().call_later(SECONDS_FOR_TOKEN, self.close, 1008, "no token")
 
     def send(self, told: Told | bytes) -> None:
@@ -150,43 +154,55 @@ class Socket(Guarded, tornado.websocket.WebSocketHandler):
             sent.add_done_callback(lambda done: done.exception())
 
     def on_message(self, message: str | bytes) -> None:
-        if not self.counted:
-            return
         try:
             told = object_of(message)
         except Fault as fault:
             self.close(1003, str(fault))
             return
         if not self.known:
-            self.begin(told.get("token"))
+            self.begin(told)
         elif (make := make_of(told)) is not None:
             self.ask(make)
         elif "pick" in told:
             self.pick(told["pick"])
         elif "stop" in told:
-            self.site.desk.seekers.stop((self, whole_of(told["stop"])))
-        elif (boundary := boundary_of(told, self.site.desk.scenario.slots)) is not None:
+            self.site.desk.seekers.stop((self, whole_number_of(told["stop"])))
+        elif (boundary := asked_boundary(told, self.site.desk.scenario.slots)) is not None:
             self.boundary, self.wanted = boundary, True
             self.site.desk.look()
 
-    def begin(self, token: object) -> None:
+    def begin(self, told: Members) -> None:
         """Lets a browser in that has the token, and tells it the case and the list."""
-        if not self.site.guard.knows(token):
+        guard = self.site.guard
+        if not guard.may_see(told.get("token")):
             self.close(1008, "wrong token")
             return
+        self.may_change = guard.knows(told.get("token"))
+        if self.site.sockets >= MOST_BROWSERS:
+            self.close(1013, f"{MOST_BROWSERS} browsers are open already")
+            return
+        self.site.sockets += 1
+        self.counted = True
         tornado.ioloop.IOLoop.current().remove_timeout(self.waits)
-        self.known, self.name = True, f"browser {next(self.site.names)}"
+        self.known, self.name = True, self.site.name_of(told.get("window"))
         self.site.desk.browsers.add(self)
-        you: Told = {"you": self.name}
+        you: Told = {"you": self.name, "shows": guard.shows if self.may_change else None}
         self.send({"hello": {**self.site.hello, **you}})
-        for told in self.site.desk.told():
-            self.send(told)
+        for answer in self.site.desk.told(self):
+            self.send(answer)
 
     def ask(self, make: Make) -> None:
-        """Has a change of the list made, if the browser has not too many that wait."""
+        """Has a change of the list made, if the browser may, and has not too many that wait."""
+        if not self.may_change:
+            self.send({"refused": READ_ONLY, "at": make.at})
+            return
         if not self.site.desk.ready or self.pending >= MOST_PENDING:
-            self.send({"refused": "too many changes wait" if self.site.desk.ready else "the base is being fetched",
-                       "at": make.at})
+            self.send(
+                {
+                    "refused": TOO_MANY if self.site.desk.ready else FETCHING,
+                    "at": make.at,
+                }
+            )
             return
         self.pending += 1
         self.site.desk.jobs.put_nowait((self, make))
@@ -204,20 +220,41 @@ class Socket(Guarded, tornado.websocket.WebSocketHandler):
 
 def application_of(site: Site, texts: dict[str, tuple[str, str]]) -> tornado.web.Application:
     """The handlers of a server."""
-    routes: list[Any] = [(path, File, {"site": site, "text": text, "kind": kind})
-                         for path, (text, kind) in texts.items()]
+    routes: list[Any] = [
+        (path, File, {"site": site, "text": text, "kind": kind}) for path, (text, kind) in texts.items()
+    ]
     routes += [(r"/(script\.jsonl|case\.zip|page\.html)", KeptFile, {"site": site}), ("/ws", Socket, {"site": site})]
-    return tornado.web.Application(routes, websocket_max_message_size=MOST_MESSAGE, websocket_ping_interval=PAUSE,
-                                   log_function=lambda handler: None, answer_headers=site.guard.headers(),
-                                   default_handler_class=Missing, default_handler_args={"site": site})
+    return tornado.web.Application(
+        routes,
+        websocket_max_message_size=MOST_MESSAGE,
+        websocket_ping_interval=PAUSE,
+        log_function=lambda handler: None,
+        answer_headers=site.guard.headers(),
+        default_handler_class=Missing,
+        default_handler_args={"site": site},
+    )
 
 
+@tornado.web.stream_request_body
 class Missing(Guarded):
     """Any other path."""
 
     def prepare(self) -> None:
+        super().prepare()
+        if self._finished:
+            return
         self.set_status(404)
         self.finish()
+
+
+class Bounded(tornado.httpserver.HTTPServer):
+    """A server with so many connections at most; further ones are cut off at once."""
+
+    def handle_stream(self, stream: Any, address: Any) -> None:
+        if len(self._connections) >= MOST_CONNECTIONS:
+            stream.close()
+        else:
+            super().handle_stream(stream, address)
 
 
 @dataclass(slots=True)
@@ -244,9 +281,10 @@ def begin(desk: Desk, port: int = 0, d3: str | None = None) -> Live:
         sockets = tornado.netutil.bind_sockets(port, ADDRESS)
     except OSError as error:
         raise Fault(f"port {port} of {ADDRESS}: {error.strerror or error}") from None
-    site = Site(Guard(sockets[0].getsockname()[1]), desk, told, names=count(1))
-    server = tornado.httpserver.HTTPServer(application_of(site, texts), max_body_size=MOST_MESSAGE,
-                                           max_header_size=16_384, idle_connection_timeout=30)
+    site = Site(Guard(sockets[0].getsockname()[1]), desk, told)
+    server = Bounded(
+        application_of(site, texts), max_body_size=MOST_MESSAGE, max_header_size=16_384, idle_connection_timeout=30
+    )
     server.add_sockets(sockets)
     port = sockets[0].getsockname()[1]
     return Live(f"http://{ADDRESS}:{port}/#{site.guard.token}", site, server)

@@ -10,7 +10,7 @@ import math
 import random
 from collections.abc import Iterable, Sequence
 
-from ..network.least import least
+from ..case.least import least
 
 Place = tuple[float, float]
 Neighbours = dict[str, dict[str, float]]
@@ -20,7 +20,7 @@ ROUNDS = 30
 TURNS = 60  # of the power iteration
 
 
-def places(nodes: Sequence[str], links: Iterable[tuple[str, str, float]]) -> dict[str, Place]:
+def laid_out(nodes: Sequence[str], links: Iterable[tuple[str, str, float]]) -> dict[str, Place]:
     """A place for each node; links are given by their ends and length. Parts of the network that do not hang together
     stand side by side."""
     near: Neighbours = {node: {} for node in nodes}
@@ -29,7 +29,7 @@ def places(nodes: Sequence[str], links: Iterable[tuple[str, str, float]]) -> dic
         near[tail][head] = near[head][tail] = max(shortest, 1e-9)
     found: dict[str, Place] = {}
     edge = 0.0
-    for part in parts(near):
+    for part in connected_parts(near):
         drawn = draw(part, near)
         left, right = min(x for x, _ in drawn.values()), max(x for x, _ in drawn.values())
         if found:
@@ -39,7 +39,7 @@ def places(nodes: Sequence[str], links: Iterable[tuple[str, str, float]]) -> dic
     return found
 
 
-def parts(near: Neighbours) -> list[list[str]]:
+def connected_parts(near: Neighbours) -> list[list[str]]:
     """The nodes of each part that hangs together, in order of their first nodes."""
     seen: set[str] = set()
     found = []
@@ -85,13 +85,15 @@ def scaled(rows: list[list[float]]) -> tuple[list[float], list[float]]:
     by_row = [sum(row) / len(row) for row in squares]
     by_pivot = [sum(column) / len(column) for column in zip(*squares)]
     middle = sum(by_row) / len(by_row)
-    centred = [[(of_row + of_pivot - square - middle) / 2 for square, of_pivot in zip(row, by_pivot)]
-               for row, of_row in zip(squares, by_row)]
+    centred = [
+        [(of_row + of_pivot - square - middle) / 2 for square, of_pivot in zip(row, by_pivot)]
+        for row, of_row in zip(squares, by_row)
+    ]
     columns = list(zip(*centred))
     products = [[sum(map(float.__mul__, one, other)) for other in columns] for one in columns]
     found: list[list[float]] = []
     for _ in range(2):
-        vector, value = greatest(products)
+        vector, value = greatest_eigenvector(products)
         axis = [sum(map(float.__mul__, row, vector)) for row in centred]
         size = math.sqrt(sum(x * x for x in axis))
         shrink = value**0.25 / size if size > 0 and value > 0 else 0.0
@@ -100,7 +102,7 @@ def scaled(rows: list[list[float]]) -> tuple[list[float], list[float]]:
     return found[0], found[1]
 
 
-def greatest(matrix: list[list[float]]) -> tuple[list[float], float]:
+def greatest_eigenvector(matrix: list[list[float]]) -> tuple[list[float], float]:
     """The eigenvector of the greatest eigenvalue of a symmetric matrix, about, and that value."""
     pick = random.Random(1)
     vector, value = [pick.random() - 0.5 for _ in matrix], 0.0
@@ -115,10 +117,12 @@ def greatest(matrix: list[list[float]]) -> tuple[list[float], float]:
 
 def settle(at: dict[str, list[float]], far: dict[str, dict[str, float]], near: Neighbours) -> None:
     """Moves nodes towards their distances from the pivots and from their neighbours."""
-    pairs = [(at[pivot], at[node], length) for pivot, row in far.items() for node, length in row.items()
-             if node != pivot]
-    pairs += [(at[node], at[other], length) for node, row in near.items() if node in at
-              for other, length in row.items()]
+    pairs = [
+        (at[pivot], at[node], length) for pivot, row in far.items() for node, length in row.items() if node != pivot
+    ]
+    pairs += [
+        (at[node], at[other], length) for node, row in near.items() if node in at for other, length in row.items()
+    ]
     longest, shortest = max(pair[2] for pair in pairs), min(pair[2] for pair in pairs)
     rounds = max(3, min(ROUNDS, MOST_MOVES // len(pairs)))
     cooling = math.log(max(longest / shortest, 10.0) ** 2) / max(1, rounds - 1)
@@ -145,11 +149,13 @@ def bends(at: dict[str, Place], ends: Sequence[tuple[str, str]]) -> list[float]:
     that is not an end of it, and else 0."""
     if len(ends) > BENT_LINKS:
         return [0.0] * len(ends)
-    return [0.12 if any(over(at[tail], at[head], at[node]) for node in at if node not in (tail, head)) else 0.0
-            for tail, head in ends]
+    return [
+        0.12 if any(lies_between(at[tail], at[head], at[node]) for node in at if node not in (tail, head)) else 0.0
+        for tail, head in ends
+    ]
 
 
-def over(one: Place, other: Place, point: Place) -> bool:
+def lies_between(one: Place, other: Place, point: Place) -> bool:
     """Whether a point lies on the line between two others, or nearly so."""
     east, north = other[0] - one[0], other[1] - one[1]
     square = east * east + north * north or 1e-9

@@ -1,46 +1,52 @@
-"use strict";
 // The slider over the horizon and the button that plays it in twelve seconds, as both pages have them.
-const ltmPlay = (() => {
-  const LASTS = 12000;
 
-  // `slots()` is where the slider ends, `goTo(k)` is called for each boundary.
-  function create({ time, button, clock }, { slots, clockOf, goTo }) {
-    let playing = null;
-    const here = () => Number(time.value);
+const LASTS = 12000;
 
-    function show(k) {
-      const boundary = Math.max(0, Math.min(slots(), k));
-      time.max = slots();
-      time.value = boundary;
-      clock.textContent = clockOf(boundary);
-      time.setAttribute("aria-valuetext", clock.textContent);
-      goTo(boundary);
-    }
-
-    function stop() {
-      if (playing === null) return;
-      playing.stop();
-      playing = null;
-      button.textContent = "▶";
-      button.setAttribute("aria-label", "play");
-    }
-
-    function play() {
-      if (playing !== null) return stop();
-      if (here() >= slots()) show(0);
-      button.textContent = "❚❚";
-      button.setAttribute("aria-label", "stop");
-      const began = here(), pace = slots() / LASTS;
-      playing = d3.timer(passed => {
-        show(began + Math.round(passed * pace));
-        if (here() >= slots()) stop();
-      });
-    }
-
-    time.addEventListener("input", () => { stop(); show(here()); });
-    button.addEventListener("click", play);
-    return { show, here };
+export class Player {
+  // `slots()` is where the slider ends; `goTo(k, byHand)` is called for each boundary, and told whether a user went
+  // there.
+  constructor({ time, button, clock }, { slots, clockOf, goTo }) {
+    Object.assign(this, { time, button, clock, slots, clockOf, goTo, playing: null });
+    time.addEventListener("input", () => { this.stop(); this.show(this.here(), true); });
+    button.addEventListener("click", () => this.play());
   }
 
-  return { create };
-})();
+  here() {
+    return Number(this.time.value);
+  }
+
+  show(k, byHand = false) {
+    const boundary = Math.max(0, Math.min(this.slots(), k)), { time, clock } = this;
+    time.max = this.slots();
+    time.value = boundary;
+    clock.textContent = this.clockOf(boundary);
+    time.setAttribute("aria-valuetext", clock.textContent);
+    this.goTo(boundary, byHand);
+  }
+
+  named(sign, name) {
+    this.button.textContent = sign;
+    this.button.setAttribute("aria-label", name);
+  }
+
+  stop() {
+    if (this.playing === null) return;
+    this.playing.stop();
+    this.playing = null;
+    this.named("▶", "play");
+  }
+
+  play() {
+    if (this.playing !== null) {
+      this.stop();
+      return;
+    }
+    if (this.here() >= this.slots()) this.show(0);
+    this.named("❚❚", "stop");
+    const began = this.here(), pace = this.slots() / LASTS;
+    this.playing = d3.timer(passed => {
+      this.show(began + Math.round(passed * pace), true);
+      if (this.here() >= this.slots()) this.stop();
+    });
+  }
+}

@@ -1,0 +1,37 @@
+// The frames that the server sends: one question is on its way at a time, and the last that was asked for is the next.
+import { behindPaint, frameOf } from "./wire.js";
+
+export class Frames {
+  // `live` has `state`, `wire`, `map` and `times`.
+  constructor(live) {
+    Object.assign(this, { live, asked: null, flying: false });
+  }
+
+  see(k) {
+    this.asked = k;
+    if (!this.flying) this.flying = this.live.wire.send({ see: k });
+  }
+
+  // After the connection was lost no answer is to be waited for.
+  lost() {
+    this.flying = false;
+  }
+
+  show(words) {
+    const { state, map, times, wire } = this.live, { links, nodes } = state.net;
+    const fresh = state.frame === null || state.frame.revision !== words[0];
+    state.frame = frameOf(words, links.length, nodes.length);
+    this.flying = state.frame.k !== this.asked && wire.send({ see: this.asked });
+    map.draw();
+    const one = times[times.length - 1];
+    if (!fresh || !one || one.drawn !== undefined) return;
+    one.drawn = performance.now();
+    behindPaint(() => { one.painted = performance.now(); });
+  }
+
+  // Asks again where what is shown is of an earlier list.
+  renew(revision, k) {
+    const { frame } = this.live.state;
+    if (frame !== null && frame.revision !== revision && !this.flying) this.see(k);
+  }
+}

@@ -1,0 +1,61 @@
+// What the map shows of the frame that is there: amounts by colour, signs on roads that are changed, words beside the
+// mouse.
+import { SIGNS, drawScale, drawSigns } from "./legend.js";
+import { RoadMap } from "./map.js";
+import { signed, vehicles } from "./numbers.js";
+import { marksOf } from "./story.js";
+
+const FEW_LINKS = 80, LEAST_LABEL = 500;
+
+export class Sights {
+  // `state` has `net`, `frame`, `picked`, `shown` and `list`.
+  constructor(state, { canvas, tip, pick }) {
+    this.state = state;
+    this.map = new RoadMap(canvas, tip, {
+      get networks() { return [state.net]; },
+      network: () => state.net,
+      amount: link => state.frame === null ? 0 : this.amount(link),
+      waiting: node => state.frame === null ? 0 : state.frame.now.waiting[node],
+      chosen: () => state.picked,
+      label: link => this.label(link),
+      marks: () => this.marks(),
+      nodeFirst: (node, event) => Boolean(event && event.shiftKey),
+      tell: what => state.frame === null ? "" : this.tell(what),
+      choose: pick,
+    });
+  }
+
+  amount(link) {
+    const { now, base } = this.state.frame, { shown } = this.state;
+    return shown === "change" ? now.queue[link] - base.queue[link] : now[shown][link];
+  }
+
+  label(link) {
+    const { frame, net, shown } = this.state;
+    if (frame === null || net.links.length > FEW_LINKS || Math.abs(this.amount(link)) < LEAST_LABEL) return "";
+    const text = vehicles(this.amount(link), 1);
+    return shown === "change" ? signed(text, this.amount(link)) : text;
+  }
+
+  marks() {
+    const { frame, list, net } = this.state;
+    return marksOf(net, list, frame === null ? 0 : frame.k);
+  }
+
+  tell({ link, node }) {
+    const { frame: { now, base }, net } = this.state;
+    if (link !== undefined) {
+      const { name, storage } = net.links[link];
+      return `${net.shown(name)}: ${vehicles(now.queue[link])} in the queue, base ${vehicles(base.queue[link])}; `
+        + `${vehicles(now.standing[link])} on it of ${vehicles(storage)}`;
+    }
+    if (node === undefined) return "";
+    const waits = `${vehicles(now.waiting[node])} waiting, base ${vehicles(base.waiting[node])}`;
+    return `node ${net.nodes[node].name}${net.isOrigin.has(node) ? `: ${waits}` : ""}`;
+  }
+
+  legend() {
+    drawScale(d3.select("#scale"), this.state.shown === "change", "% of what the road stores");
+    drawSigns(d3.select("#signs"), SIGNS);
+  }
+}
