@@ -11,15 +11,21 @@ from importlib import import_module
 from typing import TYPE_CHECKING
 
 if TYPE_CHECKING:
-    from .case import Case as Case, edits as edits
+    from .case import Case as Case
     from .errors import Fault as Fault
     from .loading import delay as delay
     from .loading.curves import Curves as Curves
-    from .loading.session import Refused as Refused, Session as Session
+    from .scenario import edits as edits
+    from .scenario.session import Refused as Refused, Session as Session
 
-CLASSES = {"Case": "case", "Curves": "loading.curves", "Fault": "errors", "Refused": "loading.session",
-           "Session": "loading.session"}
-MODULES = {"delay": "loading.delay", "edits": "case.edits"}
+CLASSES = {
+    "Case": "case",
+    "Curves": "loading.curves",
+    "Fault": "errors",
+    "Refused": "scenario.session",
+    "Session": "scenario.session",
+}
+MODULES = {"delay": "loading.delay", "edits": "scenario.edits"}
 
 
 def __getattr__(name: str) -> object:

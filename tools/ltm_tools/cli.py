@@ -1,8 +1,8 @@
 """The command line: `ltm-tools COMMAND ..`.
 
 Each command is a module of `commands`, called as it is typed, with NAME, SUMMARY (a line), EXAMPLES (text),
-`add_arguments(parser)` and `run(args) -> int`, which gives the status. It may have NEEDS, the names of libraries beside
-Python's own without which it cannot run.
+`add_arguments(parser)` and `run(args) -> int`, which gives the status. It may have `needs(args)`: the names of the
+libraries beside Python's own without which it cannot run with these arguments.
 """
 import argparse
 import errno
@@ -17,13 +17,41 @@ from types import ModuleType
 from typing import NoReturn
 
 from . import libraries
-from .errors import Fault
+from .errors import Fault, one_line
+from .files import check_output
+from .program import find_program
 
 # modules, in the order in which they are told
 COMMANDS = (
-    "inspect", "explain", "from_gmns", "from_sumo", "demand", "splits", "signals", "turns",
-    "queues", "times", "compare", "page", "live", "geojson", "plot", "draw", "sweep", "assign", "closures",
-    "apply", "prove", "install",
+    "inspect",
+    "explain",
+    "from_gmns",
+    "from_sumo",
+    "from_tntp",
+    "demand",
+    "splits",
+    "signals",
+    "turns",
+    "queues",
+    "times",
+    "flows",
+    "validate",
+    "calibrate",
+    "compare",
+    "page",
+    "live",
+    "geojson",
+    "plot",
+    "draw",
+    "sweep",
+    "assign",
+    "closures",
+    "bottlenecks",
+    "drive",
+    "apply",
+    "prove",
+    "install",
+    "package",
 )
 
 PROGRAM = "ltm-tools"
@@ -47,7 +75,7 @@ def commands(names: Sequence[str] = COMMANDS) -> list[ModuleType]:
     return [importlib.import_module(f".commands.{name}", __package__) for name in names]
 
 
-def asked(words: Sequence[str]) -> Sequence[str]:
+def command_asked(words: Sequence[str]) -> Sequence[str]:
     """The command that is asked for, which loads no other; where there is none, all."""
     name = words[0].replace("-", "_") if words else ""
     return [name] if name in COMMANDS else COMMANDS
@@ -55,12 +83,22 @@ def asked(words: Sequence[str]) -> Sequence[str]:
 
 def parser_of(modules: Sequence[ModuleType]) -> Parser:
     """The parser of all commands."""
-    parser = Parser(prog=PROGRAM, description="Tools beside the proved program ltm. Nothing of them is proved.",
-                    epilog=f"{PROGRAM} COMMAND --help tells more of one, with examples.", allow_abbrev=False)
+    parser = Parser(
+        prog=PROGRAM,
+        description="Tools around the proved program ltm. The tools themselves are not proved.",
+        epilog=f"{PROGRAM} COMMAND --help explains a command, with examples.",
+        allow_abbrev=False,
+    )
     choices = parser.add_subparsers(dest="command", metavar="COMMAND", required=True)
     for module in modules:
-        one = choices.add_parser(module.NAME, help=module.SUMMARY, description=module.SUMMARY, epilog=module.EXAMPLES,
-                                 formatter_class=argparse.RawDescriptionHelpFormatter, allow_abbrev=False)
+        one = choices.add_parser(
+            module.NAME,
+            help=module.SUMMARY,
+            description=module.SUMMARY,
+            epilog=module.EXAMPLES,
+            formatter_class=argparse.RawDescriptionHelpFormatter,
+            allow_abbrev=False,
+        )
         module.add_arguments(one)
         one.set_defaults(module=module)
     return parser
@@ -69,15 +107,29 @@ def parser_of(modules: Sequence[ModuleType]) -> Parser:
 def run(words: Sequence[str] | None) -> int:
     """Runs a command: its status."""
     words = sys.argv[1:] if words is None else words
-    args = parser_of(commands(asked(words))).parse_args(words)
+    args = parser_of(commands(command_asked(words))).parse_args(words)
     try:
-        libraries.need(getattr(args.module, "NEEDS", ()))
+        if hasattr(args.module, "needs"):
+            libraries.need(args.module.needs(args), unbuilt(args))
+        if getattr(args, "output", None) is not None:
+            check_output(args.output)
         status = int(args.module.run(args))
         sys.stdout.flush()
         return status
     except Fault as fault:
         tell(f"{PROGRAM} {args.command}: {fault}")
         return 1
+
+
+def unbuilt(args: argparse.Namespace) -> str:
+    """What is to be said beside missing libraries, where a command runs the program and there is none."""
+    if not hasattr(args, "program") or getattr(args, "curves", None) is not None:
+        return ""
+    try:
+        find_program(args.program)
+    except Fault as fault:
+        return f"; and {fault}"
+    return ""
 
 
 def end_by_signals() -> None:
@@ -136,7 +188,7 @@ def status_of(words: Sequence[str] | None) -> int:
 def tell(text: str) -> None:
     """Writes one line on the standard error, if that takes it."""
     try:
-        print(" ".join(text.split()), file=sys.stderr, flush=True)
+        print(one_line(text), file=sys.stderr, flush=True)
     except OSError:
         pass
 

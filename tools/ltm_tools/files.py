@@ -4,6 +4,7 @@
 `read_table` reads the tables of other tools: UTF-8, fields by the names of a header, in any order.
 """
 import codecs
+import contextlib
 import csv
 import io
 import os
@@ -12,14 +13,16 @@ import sys
 from collections.abc import Iterable, Iterator, Sequence
 from dataclasses import dataclass
 from fractions import Fraction
+from pathlib import Path
 from typing import NamedTuple
 
 from .errors import Fault
 from .formats import exact_or_none, number_rule
-from .replacing import make_folders, replace
+from .replacing import make_folders, missing_folders, replace, try_to_write
 
 
 NEW_LINE = b"\n"
+TRIED = "tried"  # a file that is written into a folder to see whether one can be
 NO_TEXT = re.compile("[\ud800-\udfff]")  # halves of pairs, by which a byte that is no text is kept
 
 
@@ -73,6 +76,13 @@ def read_text(path: str | os.PathLike[str]) -> str:
     return decoded(read_bytes(path), path)
 
 
+def existing(path: str | os.PathLike[str]) -> Path:
+    """The path of a file; a Fault where no file is there."""
+    if not Path(path).is_file():
+        raise Fault(f"{path}: no such file")
+    return Path(path)
+
+
 def bytes_text(data: bytes) -> str:
     """Bytes as text that keeps each of them: UTF-8 where they are, and else a mark for a byte that is none."""
     return data.decode("utf-8", "surrogateescape")
@@ -80,8 +90,9 @@ def bytes_text(data: bytes) -> str:
 
 def readable(text: str) -> str:
     """A text that can be written: bytes that are no text as \\xfc, as a name of a folder may have them."""
-    return NO_TEXT.sub(lambda found: f"\\x{ord(found[0]) - 0xDC00:02x}" if ord(found[0]) >= 0xDC80
-                       else f"\\u{ord(found[0]):04x}", text)
+    return NO_TEXT.sub(
+        lambda found: f"\\x{ord(found[0]) - 0xDC00:02x}" if ord(found[0]) >= 0xDC80 else f"\\u{ord(found[0]):04x}", text
+    )
 
 
 def shown(text: str) -> str:
@@ -193,12 +204,16 @@ def check_fields(record: Sequence[str], header: Sequence[str], place: str, advic
     """A Fault where a row has a text that no field of the header is for, or no text for one of its fields."""
     count, wanted = len(record), len(header)
     if any(text.strip() for text in record[wanted:]):
-        raise Fault(f"{place}: {count} fields, and the header has {wanted}: {shown(record[wanted])} is surplus, and a"
-                    f" field with a separator in it"
-                    f" stands in quotes{advice}")
+        raise Fault(
+            f"{place}: {count} fields, and the header has {wanted}: {shown(record[wanted])} is surplus, and a"
+            f" field with a separator in it"
+            f" stands in quotes{advice}"
+        )
     if any(name.strip() for name in header[count:]):
-        raise Fault(f"{place}: {count} fields, and the header has {wanted}: {' and '.join(header[count:])} is"
-                    f" missing{advice}")
+        raise Fault(
+            f"{place}: {count} fields, and the header has {wanted}: {' and '.join(header[count:])} is"
+            f" missing{advice}"
+        )
 
 
 def read_table(path: str | os.PathLike[str], wanted: Sequence[str] = ()) -> list[Row]:
@@ -247,6 +262,32 @@ def write_records(path: str | os.PathLike[str], header: Sequence[str], rows: Ite
 def write_lines(path: str | os.PathLike[str], header: Sequence[str], lines: Iterable[str]) -> None:
     """The same of records that are lines already, without their end."""
     write_text(path, "\n".join((",".join(header), *lines, "")))
+
+
+def check_output(path: str | os.PathLike[str]) -> None:
+    """A Fault where a file cannot be written; it is asked before the work that takes long."""
+    if os.fspath(path) == "-":
+        return
+    try:
+        try_to_write(path)
+    except OSError as error:
+        raise Fault(f"{path}: {error.strerror or error}") from None
+
+
+@contextlib.contextmanager
+def output_folder(path: str | os.PathLike[str]) -> Iterator[None]:
+    """Makes the folder of a result before the work that takes long, or raises a Fault where nothing can be written in
+    it; where the work fails, a folder that was made for it goes again."""
+    missing = missing_folders(path)
+    try:
+        make_folder(path)
+        check_output(os.path.join(path, TRIED))
+        yield
+    except BaseException:
+        for folder in reversed(missing):
+            with contextlib.suppress(OSError):
+                os.rmdir(folder)
+        raise
 
 
 def make_folder(path: str | os.PathLike[str]) -> None:

@@ -74,7 +74,7 @@ MOST_EDITORS = 8
 # the files of a case, in the order in which they are read: the fields of each header
 SETUP = ("step_ms", "slots", "origin_capacity")
 # may stand behind these three, each or not, in this order
-SETUP_MORE = ("signals", "limits", "cells", "rows", "links", "destinations", "moves")
+SETUP_MORE = ("signals", "limits", "cells", "rows", "links", "destinations", "moves", "carry")
 LINKS = ("link", "from", "to", "length_m", "free_kmh", "wave_kmh", "jam_per_km")
 DEMAND = ("origin", "destination", "from_slot", "to_slot", "vehicles")
 SPLITS = ("node", "destination", "from_slot", "weights")
@@ -198,8 +198,13 @@ def told_time(text: str) -> int:
 
 def _told(text: str, decimals: int) -> int:
     whole, _, part = text.partition(".")
-    if not whole or len(part) != decimals or not (whole
-                                                  + part).isdecimal() or not text.isascii() or len(text) > MOST_SIGNS:
+    if (
+        not whole
+        or len(part) != decimals
+        or not (whole + part).isdecimal()
+        or not text.isascii()
+        or len(text) > MOST_SIGNS
+    ):
         raise Fault(f"{text[:MOST_SIGNS]!r} is no number with {decimals} decimals")
     return int(whole + part)
 
@@ -219,9 +224,10 @@ def record_text(fields: Iterable[object]) -> str:
     """A record of CSV without its end: fields with commas between, in quotes where one has a comma, a quote or a line's
     end, or is empty and stands alone."""
     texts = [str(field) for field in fields]
-    return ",".join(f'"{text.replace(QUOTE, QUOTE + QUOTE)}"' if any(sign in text for sign in ',"\n\r') or texts == [""]
-                    else text
-                    for text in texts)
+    return ",".join(
+        f'"{text.replace(QUOTE, QUOTE + QUOTE)}"' if any(sign in text for sign in ',"\n\r') or texts == [""] else text
+        for text in texts
+    )
 
 
 def count_text(number: int) -> str:
@@ -231,7 +237,26 @@ def count_text(number: int) -> str:
 
 def counted(number: int, what: str) -> str:
     """A number of things: `1 link`, `4,000 links`."""
-    return f"{count_text(number)} {what}{'s' * (number != 1)}"
+    return f"{count_text(number)} {plural(number, what)}"
+
+
+OF_ONE = {"are": "is", "have": "has", "get": "gets"}
+
+
+def many(number: int, what: str) -> str:
+    """The same without commas in the number, as lines that programs read have it: `1 link`, `4000 links`."""
+    return f"{number} {plural(number, what)}"
+
+
+def agreeing(what: str, count: int) -> str:
+    """What is said of several things, as it is said of so many: of one `is`, `has` and `gets` in place of `are`, `have`
+    and `get`."""
+    return what if count != 1 else re.sub(r"\b(are|have|get)\b", lambda it: OF_ONE[it[1]], what)
+
+
+def plural(number: int, what: str) -> str:
+    """The word for a number of things: `link` of one, and else `links`."""
+    return what + "s" * (number != 1)
 
 
 CLOCK = re.compile(r"([0-9]{1,3}):([0-5][0-9])(?::([0-5][0-9])(?:\.([0-9]{1,3}))?)?", re.ASCII)

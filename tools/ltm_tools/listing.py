@@ -58,15 +58,19 @@ def rounded(top: int, bottom: int, decimals: int) -> Decimal:
 
 def csv_text(header: Sequence[str], rows: Sequence[Sequence[Cell]]) -> str:
     """The table as CSV: a header, and a line for each row."""
-    texts = [["" if cell is None else format(cell, "f") if isinstance(cell, Decimal) else cell for cell in row]
-             for row in rows]
+    texts = [
+        ["" if cell is None else format(cell, "f") if isinstance(cell, Decimal) else cell for cell in row]
+        for row in rows
+    ]
     return "".join(record_text(row) + "\n" for row in (header, *texts))
 
 
 def json_text(header: Sequence[str], rows: Sequence[Sequence[Cell]]) -> str:
     """The table as JSON: an array with an object for each row, a line each."""
-    lines = ["{" + ", ".join(f"{json.dumps(name)}: {json_cell(cell)}" for name, cell in zip(header, row)) + "}"
-             for row in rows]
+    lines = [
+        "{" + ", ".join(f"{json.dumps(name)}: {json_cell(cell)}" for name, cell in zip(header, row)) + "}"
+        for row in rows
+    ]
     return "[\n" + ",\n".join(lines) + "\n]\n" if lines else "[]\n"
 
 
@@ -75,15 +79,27 @@ def json_cell(cell: Cell) -> str:
     return format(cell, "f") if isinstance(cell, Decimal) else json.dumps(cell)
 
 
+def json_number(cell: Decimal | None) -> float | None:
+    """A decimal number for a file of JSON that others write."""
+    return None if cell is None else float(cell)
+
+
 def text_table(header: Sequence[str], rows: Sequence[Sequence[Cell]]) -> str:
     """The table as text in columns: numbers and times to the right, names to the left."""
-    shown = [["" if cell is None else format(cell, "f") if isinstance(cell, Decimal) else str(cell) for cell in row]
-             for row in rows]
+    shown = [
+        ["" if cell is None else format(cell, "f") if isinstance(cell, Decimal) else str(cell) for cell in row]
+        for row in rows
+    ]
     widths = [max(map(len, column)) for column in zip(header, *shown)]
-    right = [bool(rows) and all(cell is None or not isinstance(cell, str) or cell[:1].isdigit() for cell in column)
-             for column in zip(*rows)] or [False] * len(header)
+    right = [
+        bool(rows) and all(cell is None or not isinstance(cell, str) or cell[:1].isdigit() for cell in column)
+        for column in zip(*rows)
+    ] or [False] * len(header)
     right[0] = False
-    lines = ["  ".join(cell.rjust(width) if to_right else cell.ljust(width)
-                       for cell, width, to_right in zip(row, widths, right)).rstrip()
-             for row in (list(header), *shown)]
+    lines = [
+        "  ".join(
+            cell.rjust(width) if to_right else cell.ljust(width) for cell, width, to_right in zip(row, widths, right)
+        ).rstrip()
+        for row in (list(header), *shown)
+    ]
     return "".join(line + "\n" for line in lines)

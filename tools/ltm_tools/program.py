@@ -5,6 +5,7 @@ import re
 import shutil
 import subprocess
 import sys
+import sysconfig
 from collections.abc import Sequence
 from pathlib import Path
 from types import TracebackType
@@ -16,6 +17,8 @@ CLONE = Path(__file__).resolve().parents[2]
 BUILT = CLONE / "crates" / "ltm" / "out" / "ltm"
 # where ./ltm --install puts it, beside the folder of this package
 INSTALLED = Path(__file__).resolve().parents[1] / "ltm"
+# where pip puts it, out of the wheel
+BY_PIP = Path(sysconfig.get_path("scripts"), "ltm")
 # for large tables, where the system gives them to whoever asks: less time
 LARGE_PAGES = {"GLIBC_TUNABLES": "glibc.malloc.hugetlb=1"}
 NO_FILE = 3  # the status of a run to which a file of the folder is missing
@@ -24,15 +27,16 @@ HOW = "./ltm --prove in a clone of the repository makes it, and --program FILE o
 
 def find_program(program: str | os.PathLike[str] | None = None) -> Path:
     """The absolute path of the program: the one named, else that of the variable LTM, else the one built in the clone,
-    else one beside this package or this command, else `ltm` on the path; a Fault that says how to have it where there
-    is none."""
+    else one beside this package or this command, or where pip puts commands, else `ltm` on the path; a Fault that says
+    how to have it where there is none."""
     named = program or os.environ.get("LTM")
     if named:
         path = Path(named).absolute()
         if not path.is_file() or not os.access(path, os.X_OK):
             raise Fault(f"{named} is no program that can be run: {HOW}")
         return path
-    for path in (BUILT, INSTALLED, Path(sys.argv[0]).resolve().with_name("ltm")):
+    beside = [Path(sys.argv[0]).resolve().with_name("ltm")] if os.path.isfile(sys.argv[0]) else []
+    for path in (BUILT, INSTALLED, *beside, BY_PIP):
         if path.is_file() and os.access(path, os.X_OK):
             return path
     found = shutil.which("ltm")
@@ -52,27 +56,37 @@ def check_folder(folder: str | os.PathLike[str]) -> None:
 class Running(subprocess.Popen[bytes]):
     """The program while it runs. Where a block that waits for it is left by an exception it is ended."""
 
-    def __exit__(self, kind: type[BaseException] | None, error: BaseException | None,
-                 trace: TracebackType | None) -> None:
+    def __exit__(
+        self, kind: type[BaseException] | None, error: BaseException | None, trace: TracebackType | None
+    ) -> None:
         if kind is not None:
             self.kill()
         super().__exit__(kind, error, trace)
 
 
-def start(folder: str | os.PathLike[str], words: Sequence[str], program: str | os.PathLike[str] | None = None,
-          stdin: int | IO[bytes] = subprocess.DEVNULL) -> Running:
+def start(
+    folder: str | os.PathLike[str],
+    words: Sequence[str],
+    program: str | os.PathLike[str] | None = None,
+    stdin: int | IO[bytes] = subprocess.DEVNULL,
+) -> Running:
     """The program with these words, started in a folder, its output a pipe."""
     path = find_program(program)
     check_folder(folder)
     try:
-        return Running([str(path), *words], cwd=folder, stdin=stdin, stdout=subprocess.PIPE,
-                       env={**LARGE_PAGES, **os.environ})
+        return Running(
+            [str(path), *words], cwd=folder, stdin=stdin, stdout=subprocess.PIPE, env={**LARGE_PAGES, **os.environ}
+        )
     except OSError as error:
         raise Fault(f"{path}: {error.strerror or error}") from None
 
 
-def output(folder: str | os.PathLike[str], *words: str, program: str | os.PathLike[str] | None = None,
-           script: bytes | None = None) -> bytes:
+def output(
+    folder: str | os.PathLike[str],
+    *words: str,
+    program: str | os.PathLike[str] | None = None,
+    script: bytes | None = None,
+) -> bytes:
     """What the program writes with these words in a folder, `script` on its standard input; a Fault where its status is
     not 0."""
     with start(folder, words, program, subprocess.DEVNULL if script is None else subprocess.PIPE) as process:

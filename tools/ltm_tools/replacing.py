@@ -1,22 +1,30 @@
 """Files that are written whole, or not at all: each beside its place, under a name of its own, and then renamed.
 
-Several that belong together are put in place together. While that is done a case among them has no `setup.csv`, so that
-what is cut there is refused, and never read as another case.
+Several that belong together are put in place together, by one process at a time in a folder. While that is done a case
+among them has no `setup.csv`, so that what is cut there is refused, and never read as another case. A file that is put
+in place is called `.NAME.WRITE.new` before, and what it replaces `.NAME.WRITE.old` as long as not all are in place; an
+empty `.NAME.WRITE.gone` stands for one to be taken away. `after_a_cut` says how a write that was cut is finished.
 """
 from __future__ import annotations
 
 import contextlib
+import errno
+import fcntl
 import os
+import re
 import secrets
+import shlex
 import signal
 import stat
-from collections.abc import Iterator
+from collections.abc import Iterable, Iterator
 from contextvars import ContextVar
 
 from .errors import Fault
 
 SETUP_FILE = "setup.csv"  # without which no case is read
 IN_PLACE = ("/dev/fd/", "/dev/std", "/proc/")  # where files are no files of a folder
+# a file of a write: its name, the write, and what it stands for
+BESIDE = re.compile(r"\.(.+)\.([0-9a-f]{12})\.(new|old|gone)")
 
 
 class Changes:
@@ -25,20 +33,33 @@ class Changes:
 
     def __init__(self) -> None:
         self.new: dict[str, str | None] = {}
+        self.marks: dict[str, str] = {}
         self.folders: list[str] = []
+        self.name = secrets.token_hex(6)
 
     def write(self, path: str, data: bytes) -> None:
         """Writes a file beside its place."""
-        was, made = self.new.get(path), beside(path)
+        was, made = self.new.get(path), name_beside(path, self.name)
         self.new[path] = made  # known before it is there, so that it goes wherever this is interrupted
         if was is not None:
             os.unlink(was)
+        self.drop_marks(path)
         write_beside(path, made, data)
+
+    def take_away(self, path: str) -> None:
+        """Has a file taken away."""
+        was = self.new.get(path)
+        self.new[path], self.marks[path] = None, name_beside(path, self.name, "gone")
+        if was is not None:
+            os.unlink(was)
+        with open(self.marks[path], "wb"):
+            pass
 
     def put(self) -> None:
         """Puts all in place, which no signal interrupts; what was there comes back where one cannot be."""
-        with uninterrupted():
+        with alone_in(map(os.path.dirname, self.new)), uninterrupted():
             self.put_all()
+            self.drop_marks(*self.marks)
 
     def put_all(self) -> None:
         """Puts all in place; what was there comes back where one cannot be."""
@@ -50,10 +71,13 @@ class Changes:
                     os.replace(made, path)
             return
         folders = dict.fromkeys(os.path.dirname(path) for path in self.new)
-        setups = [path for folder in folders if os.path.isfile(path := os.path.join(folder, SETUP_FILE))
-                  and path not in self.new]
+        setups = [
+            path
+            for folder in folders
+            if os.path.isfile(path := os.path.join(folder, SETUP_FILE)) and path not in self.new
+        ]
         order = sorted([*setups, *self.new], key=lambda path: os.path.basename(path) != SETUP_FILE)
-        aside = {path: beside(path) for path in order if os.path.lexists(path)}
+        aside = {path: name_beside(path, self.name, "old") for path in order if os.path.lexists(path)}
         try:
             for path, name in aside.items():
                 os.rename(path, name)
@@ -66,7 +90,8 @@ class Changes:
             raise
         for path in self.new:
             if path in aside:
-                os.unlink(aside[path])
+                with contextlib.suppress(OSError):  # all is in place, and an old file that stays harms nobody
+                    os.unlink(aside[path])
 
     def put_back(self, order: list[str], aside: dict[str, str]) -> None:
         """What was there, as it was."""
@@ -77,8 +102,15 @@ class Changes:
             elif made is not None and not os.path.lexists(made):
                 os.unlink(path)
 
+    def drop_marks(self, *paths: str) -> None:
+        """Takes away the marks of files that were to be taken away."""
+        for path in paths:
+            with contextlib.suppress(OSError, KeyError):
+                os.unlink(self.marks.pop(path))
+
     def drop(self) -> None:
         """Takes away what is not in its place, and the folders that were made."""
+        self.drop_marks(*self.marks)
         for made in self.new.values():
             if made is not None:
                 with contextlib.suppress(OSError):
@@ -124,10 +156,11 @@ def replace(path: str | os.PathLike[str], data: bytes) -> None:
     if changes is not None:
         changes.write(place, data)
         return
-    made = beside(place)
+    made = name_beside(place, secrets.token_hex(6))
     try:
         write_beside(place, made, data)
-        os.replace(made, place)
+        with alone_in([os.path.dirname(place)]):
+            os.replace(made, place)
     except BaseException:
         with contextlib.suppress(OSError):
             os.unlink(made)
@@ -138,9 +171,10 @@ def take_away(path: str | os.PathLike[str]) -> None:
     """Takes a file away where it is there; within `together` with the others."""
     if not os.path.lexists(path):
         return
+    check_rights(os.fspath(path))
     changes = open_changes.get()
     if changes is not None:
-        changes.new[os.path.abspath(path)] = None
+        changes.take_away(os.path.abspath(path))
     else:
         os.unlink(path)
 
@@ -148,14 +182,20 @@ def take_away(path: str | os.PathLike[str]) -> None:
 def make_folders(path: str | os.PathLike[str]) -> None:
     """Makes a folder, and those above it, where they are not there; within `together` they go again where something
     fails."""
+    missing = missing_folders(path)
+    changes = open_changes.get()
+    if changes is not None:
+        changes.folders += missing
+    os.makedirs(path, exist_ok=True)
+
+
+def missing_folders(path: str | os.PathLike[str]) -> list[str]:
+    """A folder and those above it, as far as they are not there, from the highest."""
     missing, folder = [], os.path.abspath(path)
     while not os.path.exists(folder):
         missing.append(folder)
         folder = os.path.dirname(folder)
-    changes = open_changes.get()
-    if changes is not None:
-        changes.folders += reversed(missing)
-    os.makedirs(path, exist_ok=True)
+    return missing[::-1]
 
 
 def is_no_file(name: str) -> bool:
@@ -166,14 +206,73 @@ def is_no_file(name: str) -> bool:
         return False
 
 
-def beside(path: str) -> str:
-    """A name in the same folder that no file has."""
+def name_beside(path: str, write: str, which: str = "new") -> str:
+    """The name in the same folder that a file has before it is put in place by a write, or once it is replaced."""
     folder, name = os.path.split(path)
-    return os.path.join(folder, f".{name[:40]}.{secrets.token_hex(6)}.new")
+    return os.path.join(folder, f".{name[:40]}.{write}.{which}")
+
+
+def check_rights(path: str) -> None:
+    """An error where a file is there that may not be written, which a renaming would pass over."""
+    if os.path.exists(path) and not os.access(path, os.W_OK):
+        raise PermissionError(errno.EACCES, "it is write-protected", path)
+
+
+def try_to_write(path: str | os.PathLike[str]) -> None:
+    """An error where a file cannot be written, as it would come when it is."""
+    name = os.fspath(path)
+    if is_no_file(name):
+        if os.path.isdir(name):
+            raise IsADirectoryError(errno.EISDIR, os.strerror(errno.EISDIR), name)
+        return
+    place = os.path.realpath(name)
+    made = name_beside(place, secrets.token_hex(6))
+    try:
+        write_beside(place, made, b"")
+    finally:
+        with contextlib.suppress(OSError):
+            os.unlink(made)
+
+
+def after_a_cut(folder: str | os.PathLike[str]) -> str:
+    """How a write into a folder is finished that was cut while its files were put in place; nothing where there is
+    none. Its new files are whole; a `setup.csv` that it moved aside and has no new one for goes back."""
+    try:
+        names = sorted(os.listdir(folder))
+    except OSError:
+        return ""
+    found = [(name, *part.groups()) for name in names if (part := BESIDE.fullmatch(name))]
+    writes = {write for _, _, write, which in found if which == "old"}
+    of = {(place, which): name for name, place, write, which in found if write in writes}
+    back = (SETUP_FILE, "old") in of and (SETUP_FILE, "new") not in of and SETUP_FILE not in names
+    steps = [["mv", name, place] for (place, which), name in of.items() if which == "new" and place != SETUP_FILE]
+    steps += [["rm", "-f", name, place] for (place, which), name in of.items() if which == "gone"]
+    if back or (SETUP_FILE, "new") in of:  # the setup comes last, without which no case is read
+        steps.append(["mv", of[SETUP_FILE, "old" if back else "new"], SETUP_FILE])
+    if not any(words[0] == "mv" for words in steps):
+        return ""
+    commands = " && ".join(map(shlex.join, steps))
+    return (
+        f"a write was cut here: (cd {shlex.quote(os.fspath(folder))} && {commands}) finishes it; what it has replaced"
+        f" so far ends with .old"
+    )
+
+
+@contextlib.contextmanager
+def alone_in(folders: Iterable[str]) -> Iterator[None]:
+    """Has other processes wait that put files into these folders."""
+    with contextlib.ExitStack() as opened:
+        for folder in sorted(set(folders)):
+            with contextlib.suppress(OSError):  # where folders cannot be locked there is none to wait for
+                number = os.open(folder or os.curdir, os.O_RDONLY | os.O_DIRECTORY)
+                opened.callback(os.close, number)
+                fcntl.flock(number, fcntl.LOCK_EX)
+        yield
 
 
 def write_beside(path: str, made: str, data: bytes) -> None:
     """Writes a new file beside the place of another, with its rights and its owner where it is there."""
+    check_rights(path)
     with open(made, "xb") as file:
         with contextlib.suppress(OSError):
             was = os.stat(path)

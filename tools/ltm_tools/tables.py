@@ -63,7 +63,7 @@ class Table:
     notes: tuple[str, ...]
 
 
-def source_of(path: str | os.PathLike[str]) -> IO[bytes]:
+def open_source(path: str | os.PathLike[str]) -> IO[bytes]:
     """The bytes of a file, or of the standard input where the path is `-`, which can be read more than once."""
     if os.fspath(path) == "-":
         return io.BytesIO(sys.stdin.buffer.read())
@@ -123,16 +123,20 @@ def separator_of(line: str) -> str:
 class Stream:
     """A table while it is read: the fields of its header, what was done to read it, and its rows, which come once."""
 
-    def __init__(self, path: str | os.PathLike[str], wanted: Sequence[str] = (),
-                 names: Mapping[str, Sequence[str]] | None = None,
-                 reading: Reading = Reading()) -> None:
+    def __init__(
+        self,
+        path: str | os.PathLike[str],
+        wanted: Sequence[str] = (),
+        names: Mapping[str, Sequence[str]] | None = None,
+        reading: Reading = Reading(),
+    ) -> None:
         self.path, self.reading = path, reading
         csv.field_size_limit(MOST_FIELD)
         try:
-            source = source_of(path)
-            name, told = encoding_of(source, reading.encoding, path)
-            lines = self.lines_of(source, name)
-            self.before, first = start_of(lines)
+            self.source = open_source(path)
+            name, told = encoding_of(self.source, reading.encoding, path)
+            lines = self.lines_of(self.source, name)
+            self.before, first = first_line(lines)
         except OSError as error:
             raise Fault(f"{path}: {error.strerror or error}") from None
         self.separator = separator_of(first)
@@ -141,7 +145,7 @@ class Stream:
         if not header:
             raise Fault(f"{path}: the file is empty, and a header with {', '.join(wanted) or 'fields'} is wanted")
         self.header = [field.strip() for field in header]
-        self.fields = tuple(known([field.lower() for field in self.header], names or {}))
+        self.fields = tuple(known_fields([field.lower() for field in self.header], names or {}))
         self.written = dict(zip(self.fields, self.header))
         for name in wanted:
             if name not in self.fields:
@@ -150,7 +154,12 @@ class Stream:
         if not reading.is_lenient:
             check_header(self.header, f"{path} line {line}")
         self.notes = ((f"{path} is read as {told}",) if told else ()) + (
-            (f"{path} is read with {self.separator!r} between fields",) if self.separator != "," else ())
+            (f"{path} is read with {self.separator!r} between fields",) if self.separator != "," else ()
+        )
+
+    def close(self) -> None:
+        """Closes the file, where its header was all that was wanted."""
+        self.source.close()
 
     def lines_of(self, source: IO[bytes], encoding: str) -> Iterator[str]:
         """The lines of bytes with their ends, without a mark before them and without what some systems put behind the
@@ -184,7 +193,7 @@ class Stream:
             yield TableRow(f"{self.path} line {line}", dict(zip(self.fields, fields)), self.written)
 
 
-def start_of(lines: Iterator[str]) -> tuple[int, str]:
+def first_line(lines: Iterator[str]) -> tuple[int, str]:
     """How many lines stand before the first that is neither blank nor a remark, nor tells a spreadsheet the separator,
     and that line; an empty text where there is none."""
     for before, line in enumerate(lines):
@@ -193,8 +202,12 @@ def start_of(lines: Iterator[str]) -> tuple[int, str]:
     return 0, ""
 
 
-def read(path: str | os.PathLike[str], wanted: Sequence[str] = (), names: Mapping[str, Sequence[str]] | None = None,
-         reading: Reading = Reading()) -> Table:
+def read(
+    path: str | os.PathLike[str],
+    wanted: Sequence[str] = (),
+    names: Mapping[str, Sequence[str]] | None = None,
+    reading: Reading = Reading(),
+) -> Table:
     """The rows of a table with a header. `names` gives other names of a field, the first that is there counts; a wanted
     field that is missing is a Fault with the names that it may have."""
     found = Stream(path, wanted, names, reading)
@@ -208,7 +221,7 @@ def check_header(header: Sequence[str], place: str) -> None:
         raise Fault(f"{place}: the field {twice} stands twice in the header{LENIENT}")
 
 
-def whole_numbers(rows: Sequence[Row], fields: tuple[str, ...]) -> None:
+def whole_ids(rows: Sequence[Row], fields: tuple[str, ...]) -> None:
     """Takes the `.0` off ids that were written as decimals."""
     for name in fields:
         texts = [row.fields.get(name, "").strip() for row in rows]
@@ -231,7 +244,7 @@ def point(text: str) -> str:
     return text.replace(",", ".") if DECIMAL_COMMA.fullmatch(text.strip()) else text
 
 
-def known(fields: list[str], names: Mapping[str, Sequence[str]]) -> list[str]:
+def known_fields(fields: list[str], names: Mapping[str, Sequence[str]]) -> list[str]:
     """The fields by the names under which they are asked for."""
     made = list(fields)
     for name, others in names.items():

@@ -1,5 +1,5 @@
-"""`ltm-tools closures`: what it costs to shut links, where nobody, a share or all of those who pass find another
-way."""
+"""`ltm-tools closures`: the effect of closing links, where none, a share or all of those who pass choose another
+route."""
 from __future__ import annotations
 
 import argparse
@@ -7,68 +7,132 @@ import sys
 from collections.abc import Iterator, Sequence
 from typing import TYPE_CHECKING
 
-from .. import libraries
 from ..case import Case
 from ..case.clock import start_of
+from ..case.source import links_named
+from ..case.streets import read_streets, street_and_id, with_streets
 from ..errors import Fault
 from ..formats import MINUTE_MS, clock_text, counted, exact_or_none, vehicles_text
 from ..listing import HOURS, Cell, seconds, text_table, vehicles
-from ..network.source import links_named
-from .arguments import (add_format_arguments, add_program_argument, add_start_argument, clock, minutes, number, whole,
-                        write_table)
+from .arguments import (
+    add_format_arguments,
+    add_program_argument,
+    add_start_argument,
+    clock,
+    minutes,
+    number,
+    whole,
+    write_table,
+)
 
 if TYPE_CHECKING:
     from ..assign.closing import Closure, Cost, Passed
     from ..assign.looking import Look
 
 NAME = "closures"
-SUMMARY = "tell what it costs to shut links, where nobody, a share or all of those who pass find another way"
+SUMMARY = "show the effect of closing links, if no, some or all drivers choose another route"
 EXAMPLES = """\
     ltm-tools closures ASSIGNED --from 7:10 --to 7:25 --start 7:00
     ltm-tools closures ASSIGNED --from 7:10 --to 7:25 --start 7:00 --links a b --respond nobody 10 half all
 
-A line a closure: what enters the link in that time if it is open, and for each word of --respond what the closure costs
-in vehicle hours, and who then is not there by the end of the horizon. Those who find another way do so from the period
-on in which the closure begins.
+A line for each closure: what enters the link in that time if it is open, and for each word of --respond by how many
+vehicle hours travel time rises; the part of it that the new route choice alone changes, the road being open, so that a
+gain by better routes is not taken for one by the closure; and who has not arrived by the end of the horizon. Drivers
+respond who would pass, from when the road is closed until it is open again: a share of them who learn which routes are
+best with the closure, or each by the times of the `moment`, as those who have a navigation device and no experience.
 """
-NEEDS = ("numpy",)
-FIELDS = ("link", "from_ms", "to_ms", "vehicles", "respond", "spent", "cost", "not_there", "regret", "iteration")
+FIELDS = (
+    "link",
+    "from_ms",
+    "to_ms",
+    "vehicles",
+    "respond",
+    "spent",
+    "cost",
+    "rerouting",
+    "not_there",
+    "regret",
+    "iteration",
+)
+
+
+def needs(args: argparse.Namespace) -> Sequence[str]:
+    """The libraries beside Python's own that it cannot do without."""
+    return ("numpy",) if args.scheduler is None else ("numpy", "distributed")
 
 
 def add_arguments(parser: argparse.ArgumentParser) -> None:
-    parser.add_argument("case", metavar="CASE", help="the folder of a case, best of one that `assign` made")
-    parser.add_argument("--from", dest="first", metavar="CLOCK", type=clock, required=True, help="when a link is shut")
-    parser.add_argument("--to", dest="end", metavar="CLOCK", type=clock, required=True, help="when it is open again")
+    parser.add_argument("case", metavar="CASE", help="the folder of a case, ideally one that `assign` made")
+    parser.add_argument(
+        "--from", dest="first", metavar="CLOCK", type=clock, required=True, help="when a link is closed"
+    )
+    parser.add_argument("--to", dest="end", metavar="CLOCK", type=clock, required=True, help="when it is opened again")
     add_start_argument(parser)
-    parser.add_argument("--links", metavar="NAME", nargs="+", action="extend", default=[],
-                        help="the links to shut, each by itself; one that begins with - as in --links=-a")
-    parser.add_argument("--busiest", metavar="N", type=whole, default=10,
-                        help="without --links, how many of the busiest links (10)")
-    parser.add_argument("--respond", metavar="WHO", nargs="+", default=["nobody", "all"],
-                        help="who finds another way: nobody, half, all, or per cent (nobody all)")
-    parser.add_argument("--iterations", metavar="N", type=whole, default=8, help="how often shares go over (8)")
-    parser.add_argument("--period", type=minutes, default=5 * MINUTE_MS, metavar="MINUTES",
-                        help="how long shares stay the same (5)")
-    parser.add_argument("--step", type=number, default=3.0, metavar="SIZE", help="the size of the first step (3)")
-    parser.add_argument("--processes", metavar="N", type=whole, default=1,
-                        help="how many closures are worked out here at once (1)")
-    parser.add_argument("--scheduler", metavar="ADDRESS",
-                        help="the scheduler of a cluster of Dask, as tcp://10.0.0.7:8786")
+    parser.add_argument(
+        "--links",
+        metavar="NAME",
+        nargs="+",
+        action="extend",
+        default=[],
+        help="the links to close, each by itself; a name that begins with - is given as --links=-a",
+    )
+    parser.add_argument(
+        "--busiest",
+        metavar="N",
+        type=whole,
+        default=10,
+        help="without --links, how many of the busiest links to close (default: 10)",
+    )
+    parser.add_argument(
+        "--respond",
+        metavar="WHO",
+        nargs="+",
+        default=["nobody", "all"],
+        help=(
+            "who chooses another route: nobody, half, all, a number in per cent, or moment: all, by the travel times "
+            "of the moment (default: nobody all)"
+        ),
+    )
+    parser.add_argument(
+        "--iterations",
+        metavar="N",
+        type=whole,
+        default=8,
+        help="in how many loadings informed drivers find their routes (default: 8)",
+    )
+    parser.add_argument(
+        "--period",
+        type=minutes,
+        default=5 * MINUTE_MS,
+        metavar="MINUTES",
+        help="how long turning fractions stay the same (default: 5)",
+    )
+    parser.add_argument(
+        "--step", type=number, default=3.0, metavar="SIZE", help="the size of the first step (default: 3)"
+    )
+    parser.add_argument(
+        "--processes",
+        metavar="N",
+        type=whole,
+        default=1,
+        help="how many closures to work out on this machine at once (default: 1)",
+    )
+    parser.add_argument(
+        "--scheduler", metavar="ADDRESS", help="run on a Dask cluster with this scheduler, such as tcp://10.0.0.7:8786"
+    )
     add_format_arguments(parser)
     add_program_argument(parser)
 
 
 def run(args: argparse.Namespace) -> int:
-    from ..assign.assigning import Options
-    from ..assign.closing import Base
+    from ..assign.assigning import AssignOptions
+    from ..assign.rerouting import Base
     from ..assign.spread import costs
 
-    if args.scheduler is not None:
-        libraries.need(("distributed",))
     informed = [per_cent_of(word) for word in args.respond]
     if args.iterations < 1 or args.processes < 1:
         raise Fault("--iterations and --processes are at least 1")
-    options = Options(iterations=args.iterations, period_ms=args.period, size=args.step)
+    options = AssignOptions(iterations=args.iterations, period_ms=args.period, size=args.step)
     base = Base(Case.read(args.case), options)
     args.start = start_of(args.start, args.case)
     first, end = slots_of(args, base.case)
@@ -84,7 +148,8 @@ def run(args: argparse.Namespace) -> int:
     if sys.stderr.isatty():
         print(file=sys.stderr)
     rows = [row for link, of_link in zip(chosen, found) for row in fields(link, of_link, look, args)]
-    write_table(args, FIELDS, rows, "".join(text(chosen, found, look, args)))
+    args.streets = read_streets(args.case)
+    write_table(args, *with_streets(FIELDS, rows, "link", args.streets), "".join(text(chosen, found, look, args)))
     return 0
 
 
@@ -96,7 +161,7 @@ def per_cent_of(word: str) -> int:
     if word in WORDS:
         return WORDS[word]
     if number_ is None or number_.denominator != 1 or not 0 <= number_ <= 100:
-        raise Fault(f"--respond {word!r}: it is nobody, half, all, or whole per cent from 0 to 100")
+        raise Fault(f"--respond {word!r}: it is nobody, moment, half, all, or whole per cent from 0 to 100")
     return int(number_)
 
 
@@ -106,8 +171,10 @@ def slots_of(args: argparse.Namespace, case: Case) -> tuple[int, int]:
     for option, moment in (("--from", args.first), ("--to", args.end)):
         slot, rest = divmod(moment - args.start, case.setup.step_ms)
         if rest or not 0 <= slot <= case.setup.slots:
-            raise Fault(f"{option} {clock_text(moment)} is not where a slot of {case.setup.step_ms} ms begins within"
-                        f" the horizon, {clock_text(args.start)} to {clock_text(args.start + case.setup.horizon_ms)}")
+            raise Fault(
+                f"{option} {clock_text(moment)} is not where a slot of {case.setup.step_ms} ms begins within"
+                f" the horizon, {clock_text(args.start)} to {clock_text(args.start + case.setup.horizon_ms)}"
+            )
         found.append(slot)
     if found[0] >= found[1]:
         raise Fault("--from is not before --to")
@@ -133,27 +200,48 @@ def closures_of(chosen: Sequence[Passed], first: int, end: int) -> list[Closure]
 def fields(link: Passed, costs: Sequence[Cost], look: Look, args: argparse.Namespace) -> Iterator[list[Cell]]:
     """A closure for programs, a row for each who respond: times in vehicle seconds."""
     for word, cost in zip(args.respond, costs):
-        yield [link.link, args.first, args.end, vehicles(link.units), word, seconds(cost.spent),
-               seconds(cost.spent - look.spent), vehicles(cost.not_there), seconds(round(cost.regret)), cost.iteration]
+        yield [
+            link.link,
+            args.first,
+            args.end,
+            vehicles(link.units),
+            word,
+            seconds(cost.spent),
+            seconds(cost.spent - look.spent),
+            seconds(cost.alone - look.spent),
+            vehicles(cost.not_there),
+            seconds(round(cost.regret)),
+            cost.iteration,
+        ]
 
 
-def text(chosen: Sequence[Passed], found: Sequence[Sequence[Cost]], look: Look,
-         args: argparse.Namespace) -> Iterator[str]:
+def text(
+    chosen: Sequence[Passed], found: Sequence[Sequence[Cost]], look: Look, args: argparse.Namespace
+) -> Iterator[str]:
     """The table for people."""
-    yield (f"shut from {clock_text(args.first)} to {clock_text(args.end)}, {counted(len(chosen), 'link')} by itself"
-           f" each; cost in vehicle hours, `late` is who is not there by the end\n")
-    yield (f"open: {HOURS.show(look.spent)} vehicle hours, turn regret {look.per_cent:.2f} %, late"
-           f" {vehicles_text(look.not_there)}\n\n")
-    header = ["link", "vehicles"] + [name for word in args.respond for name in (told(word), "late")]
+    yield (
+        f"closed from {clock_text(args.first)} to {clock_text(args.end)}, {counted(len(chosen), 'link')} by itself"
+        " each;"
+        f" what travel time rises by, in vehicle hours; `routes` is the part that the new route choice alone changes,"
+        f" the road being open; `late` is who has not arrived by the end\n"
+    )
+    yield (
+        f"open: {HOURS.show(look.spent)} vehicle hours, relative gap {look.per_cent:.2f} %, late"
+        f" {vehicles_text(look.not_there)}\n\n"
+    )
+    header = ["link", "vehicles"] + [name for word in args.respond for name in (told(word), "routes", "late")]
     rows: list[list[Cell]] = []
     for link, costs in zip(chosen, found):
-        rows.append([link.link, vehicles(link.units)])
+        rows.append([street_and_id(link.link, args.streets), vehicles(link.units)])
         for cost in costs:
-            rows[-1] += [HOURS.show(cost.spent - look.spent), vehicles(cost.not_there)]
+            changed = cost.alone - look.spent
+            rows[-1] += [HOURS.show(cost.spent - look.spent), HOURS.show(changed), vehicles(cost.not_there)]
     yield text_table(header, rows)
     if look.per_cent > 2:
-        yield (f"\nthe shares of the open case have a turn regret of {look.per_cent:.2f} %: what is gained by another"
-               f" way is in part gained without a closure; `ltm-tools assign` mends that\n")
+        yield (
+            f"\nthe open case has a relative gap of {look.per_cent:.2f} %: drivers would gain by other routes without a"
+            f" closure too; `ltm-tools assign` finds these\n"
+        )
 
 
 def told(word: str) -> str:

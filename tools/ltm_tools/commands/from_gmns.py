@@ -21,14 +21,21 @@ from fractions import Fraction
 from functools import partial
 
 from ..formats import clock_ms
-from ..gmns.fields import KMH, METRES
+from ..gmns.fields import KMH
 from ..gmns.importing import GmnsOptions, import_gmns, steps_of_gmns
-from ..network.lengths import UNITS
-from .arguments import add_table_arguments, reading_of, whole
-from .imports import above_0, add_crossing_arguments, add_network_arguments, network_options, run_import
+from ..network.lengths import METRES, UNITS
+from .arguments import add_table_arguments, reading_of
+from .imports import (
+    above_0,
+    add_crossing_arguments,
+    add_network_arguments,
+    add_od_arguments,
+    network_options,
+    run_import,
+)
 
 NAME = "from-gmns"
-SUMMARY = "make a case of a GMNS network"
+SUMMARY = "import a network from GMNS"
 EXAMPLES = """\
   ltm-tools from-gmns town CASE --period 30 --horizon 30     the network as it is
   ltm-tools from-gmns city CASE --steps                      what a fit to each of some steps would change
@@ -39,41 +46,61 @@ EXAMPLES = """\
 
 def add_arguments(parser: argparse.ArgumentParser) -> None:
     """The arguments of the command."""
-    parser.add_argument("network", help="the folder of link.csv and node.csv")
-    parser.add_argument("case", help="the folder to write the case into")
+    parser.add_argument("network", help="the folder with link.csv and node.csv")
+    parser.add_argument("case", help="the folder to write the case to")
     add_network_arguments(parser)
     add_crossing_arguments(parser)
     reading = parser.add_argument_group("what the network's fields mean")
-    reading.add_argument("--jam", type=above_0, default=Fraction(150), help="jam density of a lane, vehicles/km (150)")
-    reading.add_argument("--length-unit", choices=METRES, help="the unit of length (m, or what config.csv says)")
-    reading.add_argument("--speed-unit", choices=KMH, help="the unit of free_speed (kmh, or what config.csv says)")
-    reading.add_argument("--places", choices=UNITS, help="the unit of places, for links without a length (degrees where"
-                         " they can be)")
-    reading.add_argument("--crs", type=str.upper, metavar="EPSG:CODE",
-                         help="the projection of places, as EPSG:25832 (what config.csv says, else"
-                         " EPSG:4326 where they are degrees); it goes into nodes.csv")
-    reading.add_argument("--capacity", choices=["lane", "link"], default="lane",
-                         help="whether capacity is that of a lane or of all lanes of a link, in vehicles an hour"
-                         " (lane)")
+    reading.add_argument(
+        "--jam", type=above_0, default=Fraction(150), help="jam density of a lane in vehicles/km (default: 150)"
+    )
+    reading.add_argument(
+        "--length-unit",
+        choices=METRES,
+        help=(
+            "the unit of length (default: what config.csv says, else what the places of nodes suggest, which is then "
+            "reported first, else m)"
+        ),
+    )
+    reading.add_argument(
+        "--speed-unit", choices=KMH, help="the unit of free_speed (default: what config.csv says, else kmh)"
+    )
+    reading.add_argument(
+        "--places",
+        choices=UNITS,
+        help="the unit of places, for links without a length (default: degrees if they can be degrees)",
+    )
+    reading.add_argument(
+        "--crs",
+        type=str.upper,
+        metavar="EPSG:CODE",
+        help=(
+            "the projection of places, such as EPSG:25832, which nodes.csv will name (default: what config.csv says, "
+            "else EPSG:4326 for degrees)"
+        ),
+    )
+    reading.add_argument(
+        "--capacity",
+        choices=["lane", "link"],
+        default="lane",
+        help="whether capacity, in vehicles an hour, is that of one lane (default) or of all lanes of the link",
+    )
     add_table_arguments(reading)
     demand = parser.add_argument_group("demand")
-    demand.add_argument("--demand", metavar="FILE", help="the table of origins and destinations (demand.csv of the"
-                        " network, where it is there)")
-    demand.add_argument("--period", type=whole, default=60, metavar="MINUTES",
-                        help="the minutes over which the demand sets out evenly (60)")
-    demand.add_argument("--profile", metavar="FILE", help="from,to,share: when the demand sets out, in place of"
-                        " --period")
-    demand.add_argument("--start", metavar="CLOCK",
-                        help="the clock time of slot 0, as 7:00 (the profile's first); it goes into clock.txt")
-    demand.add_argument("--horizon", type=whole, default=120, metavar="MINUTES",
-                        help="the minutes that are loaded (120)")
-    demand.add_argument("--zone-nodes", choices=["first", "even"], default="first",
-                        help="of a zone with several nodes: the first stands for it, or all in even parts, or in parts"
-                        " by a field zone_share (first)")
-    demand.add_argument("--destinations", type=whole, metavar="N",
-                        help="keep the N destinations with most vehicles, and let other trips end at the nearest one")
-    demand.add_argument("--leave-out-unreached", action="store_true",
-                        help="leave out demand to which no way leads, and tell how much")
+    demand.add_argument(
+        "--demand",
+        metavar="FILE",
+        help="the table of origins and destinations (default: demand.csv of the network, if there is one)",
+    )
+    demand.add_argument(
+        "--zone-nodes",
+        choices=["first", "even"],
+        default="first",
+        help=(
+            "which nodes of a zone its trips use: the first (default), or all of them evenly or by a field zone_share"
+        ),
+    )
+    add_od_arguments(demand)
 
 
 def run(args: argparse.Namespace) -> int:
@@ -84,8 +111,20 @@ def run(args: argparse.Namespace) -> int:
 def options_of(args: argparse.Namespace) -> GmnsOptions:
     """What the words of the command ask for."""
     start = clock_ms(args.start) if args.start is not None else None
-    return GmnsOptions(**network_options(args), jam=args.jam, length_unit=args.length_unit, speed_unit=args.speed_unit,
-                       places=args.places, crs=args.crs,
-                       capacity=args.capacity, reading=reading_of(args), demand=args.demand, period=args.period,
-                       profile=args.profile, start_ms=start,
-                       horizon=args.horizon, zone_nodes=args.zone_nodes, leave_out_unreached=args.leave_out_unreached)
+    return GmnsOptions(
+        **network_options(args),
+        jam=args.jam,
+        length_unit=args.length_unit,
+        speed_unit=args.speed_unit,
+        places=args.places,
+        crs=args.crs,
+        capacity=args.capacity,
+        reading=reading_of(args),
+        demand=args.demand,
+        period=args.period,
+        profile=args.profile,
+        start_ms=start,
+        horizon=args.horizon,
+        zone_nodes=args.zone_nodes,
+        leave_out_unreached=args.leave_out_unreached,
+    )

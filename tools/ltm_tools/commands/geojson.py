@@ -9,7 +9,7 @@ from ..loading.loaded import loaded
 from .arguments import add_case_arguments, add_start_argument, clock
 
 NAME = "geojson"
-SUMMARY = "write the links as GeoJSON for a map, with their queues and delay; wants a nodes.csv beside the case"
+SUMMARY = "write the links as GeoJSON for a GIS, with their queues and delay; needs a nodes.csv beside the case"
 EXAMPLES = """\
     ltm-tools geojson CASE -o links.geojson
     ltm-tools geojson CASE --start 7:00 --at 7:45 -o links.geojson
@@ -21,9 +21,10 @@ Amounts are vehicles, and times vehicle seconds. nodes.csv has name,x,y and may 
 def add_arguments(parser: argparse.ArgumentParser) -> None:
     add_case_arguments(parser)
     add_start_argument(parser)
-    parser.add_argument("--at", metavar="CLOCK", type=clock, help="tell also what stands on each link at this moment")
-    parser.add_argument("-o", "--output", metavar="FILE", default="-",
-                        help="the file to write (else the standard output)")
+    parser.add_argument("--at", metavar="CLOCK", type=clock, help="add what is on each link at this time")
+    parser.add_argument(
+        "-o", "--output", metavar="FILE", default="-", help="the file to write (default: the standard output)"
+    )
 
 
 def run(args: argparse.Namespace) -> int:

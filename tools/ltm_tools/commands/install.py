@@ -9,15 +9,15 @@ from ..proving.installing import COMMAND, PACKAGE, PROGRAM, install
 from ..proving.sums import why_not
 
 NAME = "install"
-SUMMARY = "copy the proved program, and these tools, into a folder"
+SUMMARY = "copy the proved program and these tools to a folder"
 EXAMPLES = """examples:
   ltm-tools install ~/.local/bin
 
-It copies ltm, ltm-tools and its folder ltm_tools. What it has installed there before is replaced, and nothing else."""
+It copies ltm, ltm-tools and its folder ltm_tools. It replaces what it installed there before, and nothing else."""
 
 
 def add_arguments(parser: argparse.ArgumentParser) -> None:
-    parser.add_argument("folder", metavar="DIR", help="where to, as ~/.local/bin")
+    parser.add_argument("folder", metavar="DIR", help="the folder to copy to, such as ~/.local/bin")
 
 
 def run(args: argparse.Namespace) -> int:

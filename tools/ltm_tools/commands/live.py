@@ -5,6 +5,7 @@ import argparse
 import asyncio
 import signal
 import tempfile
+from collections.abc import Sequence
 from typing import TYPE_CHECKING
 
 from ..case.clock import start_of
@@ -15,28 +16,39 @@ if TYPE_CHECKING:
     from ..live.desk import Desk
 
 NAME = "live"
-SUMMARY = "serve a page on which roads are shut, signals and demand changed, and their queues and costs seen at once"
-NEEDS = ("tornado",)
+SUMMARY = "open a live map: close roads, change signals and demand, and see the effect on queues and travel time"
 EXAMPLES = """\
     ltm-tools live examples/corridor --start 7:00
     ltm-tools live examples/corridor --script /tmp/changes.jsonl --port 8123 --no-open
 
-The page is for this machine alone: whoever has the address with its token sees and edits the scenario, in as many
-windows as there are. With --script the list of changes begins as the file says, and each change is in the file before
+The map is for this machine alone: anybody who has the address with its token sees and edits the scenario, in as many
+windows as they like. With --script the list of changes begins as the file says, and each change is in the file before
 it is shown. Ctrl-C ends the server and the program behind it. Needs python3-tornado and node-d3.
 """
 MOST_PORT = 65_535
 
 
+def needs(args: argparse.Namespace) -> Sequence[str]:
+    """The libraries beside Python's own that it cannot do without."""
+    return ("tornado", "d3") if args.d3 is None else ("tornado",)
+
+
 def add_arguments(parser: argparse.ArgumentParser) -> None:
     parser.add_argument("case", metavar="CASE", help="the folder of a case")
     add_start_argument(parser)
-    parser.add_argument("--script", metavar="FILE", help="a script of changes to begin with, which each change is"
-                        " written to (else the list ends with the server)")
-    parser.add_argument("--port", metavar="N", type=whole, default=0, help="the port of 127.0.0.1 (else a free one)")
-    parser.add_argument("--no-open", action="store_true", help="print the address and open no browser")
-    parser.add_argument("--d3", metavar="FILE", help="the library d3 (else $LTM_D3, or that of Debian's package"
-                        " node-d3)")
+    parser.add_argument(
+        "--script",
+        metavar="FILE",
+        help="a script of changes to begin with, which each change is"
+        " written to (else the list ends with the server)",
+    )
+    parser.add_argument(
+        "--port", metavar="N", type=whole, default=0, help="the port of 127.0.0.1 (default: a free one)"
+    )
+    parser.add_argument("--no-open", action="store_true", help="print the address, and open no browser")
+    parser.add_argument(
+        "--d3", metavar="FILE", help="the library d3 (else $LTM_D3, or that of Debian's package node-d3)"
+    )
     add_program_argument(parser)
 
 
@@ -64,6 +76,7 @@ async def served(desk: Desk, args: argparse.Namespace) -> None:
     for number in (signal.SIGINT, signal.SIGTERM, signal.SIGHUP):
         loop.add_signal_handler(number, stop.set)
     with tempfile.TemporaryDirectory(prefix="ltm-live-") as folder:
+
         def ready(address: str) -> None:
             print(address, flush=True)
             if not args.no_open:

@@ -14,13 +14,13 @@ from ..proving.sums import sum_of, sums_of, why_not
 from .arguments import whole
 
 NAME = "prove"
-SUMMARY = "prove the crates that the program stands on, and build it"
+SUMMARY = "prove the program and build it"
 EXAMPLES = """examples:
   ltm-tools prove
-  ltm-tools prove --check                       # says why the program is not proved as all stands, or nothing
+  ltm-tools prove --check                       # says why the program does not count as proved, or nothing
   ltm-tools prove --crate ltm_node --jobs 1     # a lower crate alone, and those below it
 
-Interrupted and started again it goes on where it was."""
+If you interrupt it, it goes on from there when you start it again."""
 
 
 class Screen:
@@ -48,18 +48,25 @@ class Screen:
 
 
 def add_arguments(parser: argparse.ArgumentParser) -> None:
-    parser.add_argument("--jobs", type=whole, default=None,
-                        help="how many crates at a time (one a processor that has 4 GB of free memory)")
-    parser.add_argument("--crate", default=PROGRAM, help="a crate in place of the program")
-    parser.add_argument("--check", action="store_true",
-                        help="prove nothing, but say why the program is not proved as all stands; nothing if it is")
+    parser.add_argument(
+        "--jobs",
+        type=whole,
+        default=None,
+        help="how many crates to prove at once (default: one for each processor with 4 GB of free memory)",
+    )
+    parser.add_argument("--crate", default=PROGRAM, help="prove this crate instead of the program")
+    parser.add_argument(
+        "--check",
+        action="store_true",
+        help="prove nothing; say why the program does not count as proved, or nothing if it does",
+    )
 
 
 def run(args: argparse.Namespace) -> int:
-    return check() if args.check else prove(args.crate, args.jobs if args.jobs is not None else lanes())
+    return check_proved() if args.check else prove(args.crate, args.jobs if args.jobs is not None else lanes())
 
 
-def check() -> int:
+def check_proved() -> int:
     """Says why the program is not proved; the status is 0 where it is."""
     why = why_not(CLONE)
     if why:
@@ -85,7 +92,7 @@ def prove(crate: str, jobs: int) -> int:
         (place / "all_crates.txt").write_text(text, encoding="utf-8")
         sums = {**sums_of(place / "tree", needs), "crates.txt": listed}
         print(f"ltm: proving {len(needs)} crates, {jobs} at a time, in {place}", file=sys.stderr)
-        Proof(CLONE, place, needs, jobs, crate, Screen()).run()
+        Proof(CLONE, place, needs, jobs, Screen()).run()
         if crate == PROGRAM:
             put_into_clone(place / "tree" / "crates" / PROGRAM / "out" / PROGRAM, sums)
             print(f"ltm: proved and built: {BUILT}", file=sys.stderr)

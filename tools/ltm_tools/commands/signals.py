@@ -1,192 +1,200 @@
-"""Gives a case its signals: cycles of greens become exit limits by slot."""
+"""Gives a case its signals: cycles of greens become exit limits by slot; or finds better plans for those that it
+has."""
 from __future__ import annotations
 
 import argparse
-from dataclasses import dataclass
-from fractions import Fraction
+import os
+import sys
+from collections.abc import Mapping, Sequence
+from itertools import accumulate
+from pathlib import Path
 
-from ..case import Case, Limit
+from ..case import Case
 from ..case.clock import read_clock, write_clock
+from ..case.roads import Roads
+from ..case.source import Source
+from ..demand.signal_plans import read_signals
 from ..errors import Fault
-from ..files import Row
-from ..formats import MOST_FILE_BYTES, clock_text, count_text
-from ..network.cycles import Green, Plan, by_turn, check_green, even_limits, exit_limits
-from ..network.demand_files import exists, moment_ms
-from ..network.flows import turn_shares
-from ..network.passages import Roads
-from ..network.source import Source
+from ..files import output_folder
+from ..formats import UNITS, counted, exact_or_none, many
+from ..listing import HOURS
 from ..replacing import together
-from ..tables import read
-from .arguments import add_table_arguments, clock, reading_of
+from ..sumo.net import Program
+from ..sumo.programs import programs_of
+from ..sumo.signals import cycle_of
+from ..timing.optimising import Signalled, Wanted, searching, signalled
+from ..timing.result import CYCLES_FILE, PROGRAMS_FILE, programs_text, timed, write_programs, write_result
+from ..timing.search import LEVELS, Search
+from ..timing.stages import Controller
+from ..timing.trying import Plan
+from .arguments import add_program_argument, add_table_arguments, clock, reading_of, whole
 
 NAME = "signals"
-SUMMARY = "give a case its signals, of cycles with greens"
+SUMMARY = "make the signals of a case from cycles with green times, or find plans that save travel time"
 EXAMPLES = """\
   ltm-tools signals CASE --cycles greens.csv --clock 7:00
   ltm-tools signals CASE --cycles greens.csv --even
+  ltm-tools signals CASE --optimise -o OUT --sumo town.net.xml town.add.xml
 
   greens.csv   link,cycle,green_from,green_to,offset,start,end as main,90,0,42,10,7:00,9:00
-The cycle, its green and its offset are in seconds; a cycle begins at the offset after the start of the case. start
-and end are clock times, or seconds after the start of the case; where they are empty the plan runs always. A link
-with several greens has a row for each. A field to names the link onto which a green lets: such a plan by turn
-becomes one limit of the link, in which each green counts for the share of its turn, by a field share, else by the
-demand and splits of the case. signals.csv is written anew."""
-NAMES = {"link": ("from_link", "in_link", "edge"), "cycle": ("cycle_s", "cycle_time", "cycle_length"),
-         "green_from": ("green_start", "from"),
-         "green_to": ("green_end",), "to": ("to_link", "out_link", "turn"), "start": ("start_time",),
-         "end": ("end_time",)}
+Cycle, green and offset are in seconds; a cycle begins at the offset after the start of the case. start and end are
+clock times, or seconds after the start of the case; if they are empty, the plan always runs. A link with several green
+times has a row for each. A field `to` names the link into which a green lets traffic: such a plan by turn becomes one
+limit of the link, in which each green counts for the fraction of its turn, by a field `share`, else by the demand and
+splits of the case. signals.csv is replaced.
 
+With --optimise the plans in turns.csv are changed junction by junction, and what shortens the total travel time is
+kept; the routes stay. docs/IMPROVE.md says more."""
 
-@dataclass(frozen=True, slots=True)
-class Record:
-    """A green as it is told: of a link, for a turn or all of it, with the turn's share where it is told."""
-
-    link: str
-    turn: str
-    share: Fraction | None
-    green: Green
-    start_ms: int
-    end_ms: int
+MOST_NAMED = 8
 
 
 def add_arguments(parser: argparse.ArgumentParser) -> None:
     """The arguments of the command."""
     parser.add_argument("case", help="the folder of the case")
-    parser.add_argument("--cycles", required=True, metavar="FILE", help="the greens")
-    parser.add_argument("--clock", metavar="CLOCK", type=clock,
-                        help="the clock time of slot 0, which goes into clock.txt (what that says, else 0:00)")
-    parser.add_argument("--even", action="store_true",
-                        help="one limit for each link, the mean of its cycle: fewer records, and no platoons")
+    kind = parser.add_mutually_exclusive_group(required=True)
+    kind.add_argument("--cycles", metavar="FILE", help="a table of cycles with green times")
+    kind.add_argument("--optimise", action="store_true", help="find better plans for the signals that the case has")
+    parser.add_argument(
+        "--clock",
+        metavar="CLOCK",
+        type=clock,
+        help="the clock time of slot 0, which goes into clock.txt (what that says, else 0:00)",
+    )
+    parser.add_argument(
+        "--even",
+        action="store_true",
+        help="one limit for each link, the mean of its cycle: fewer rows, and no platoons",
+    )
     add_table_arguments(parser)
+    add_search_arguments(parser.add_argument_group("with --optimise"))
+    add_program_argument(parser)
+
+
+def add_search_arguments(parser: "argparse._ArgumentGroup") -> None:
+    """The options of a search for better plans."""
+    parser.add_argument(
+        "-o", "--output", dest="to", metavar="OUT", help="the folder for the case with the plans that are found"
+    )
+    parser.add_argument(
+        "--rounds",
+        metavar="N",
+        type=whole,
+        default=len(LEVELS),
+        help=f"how often all junctions are tried ({len(LEVELS)})",
+    )
+    parser.add_argument(
+        "--least-green", metavar="SECONDS", type=milliseconds, default=5000, help="how short a green may be (5)"
+    )
+    parser.add_argument("--keep", metavar="NODE", nargs="+", default=[], help="junctions whose plans stay")
+    parser.add_argument(
+        "--cycle", metavar="SECONDS", nargs="+", type=milliseconds, default=[], help="common cycles to try as well"
+    )
+    parser.add_argument(
+        "--wave", metavar="LINK", nargs="+", action="append", default=[], help="a path to begin with a green wave"
+    )
+    parser.add_argument(
+        "--sumo",
+        metavar="FILE",
+        nargs="+",
+        type=Path,
+        help="the net, and files with programs, to write programs for SUMO",
+    )
+    parser.add_argument(
+        "--sessions", metavar="N", type=whole, default=os.cpu_count() or 1, help="how many sessions run at once"
+    )
+
+
+def milliseconds(text: str) -> int:
+    """Seconds of the command line, in ms."""
+    seconds = exact_or_none(text)
+    if seconds is None or seconds <= 0:
+        raise argparse.ArgumentTypeError(f"{text} is no number of seconds above 0")
+    return int(seconds * UNITS)
 
 
 def run(args: argparse.Namespace) -> int:
     """Writes the signals, and tells what they are."""
+    return optimise(args) if args.optimise else by_cycles(args)
+
+
+def by_cycles(args: argparse.Namespace) -> int:
+    """Gives the case the signals of a table."""
     case = Case.read(args.case)
-    roads = Roads.of(case.links)
-    source = Source.read(args.case, roads)
-    table = read(exists(args.cycles), ("link", "cycle", "green_from", "green_to"), NAMES, reading_of(args))
+    source = Source.read(args.case, Roads.of(case.links))
     begins = args.clock if args.clock is not None else read_clock(args.case) or 0
-    records = [record_of(row, source, case, begins) for row in table.rows]
-    plans, notes = plans_of(records, case)
-    limits = limits_of(plans, case, args.even)
-    size = sum(len(f"{limit.link},{limit.from_slot},{limit.to_slot},{limit.units / 1000:.3f}\n") for limit in limits)
-    if size > MOST_FILE_BYTES:
-        raise Fault(f"{count_text(len(limits))} records of signals have {count_text(size)} bytes, and a file may have"
-                    f" {count_text(MOST_FILE_BYTES)};"
-                    " --even needs one record for a plan")
-    notes += arriving(plans, case)
-    case.signals, case.setup.signals = limits, True
+    made = read_signals(args.cycles, case, source, start_ms=begins, even=args.even, reading=reading_of(args))
+    case.signals, case.setup.signals = made.limits, True
     with together():
         case.write(args.case)
         if args.clock is not None:
             write_clock(args.case, begins)
-    print(f"{len(limits)} records of signals, of {len({plan.link for plan in plans})} links")
-    print(*table.notes, *notes, sep="\n", end="\n" if notes or table.notes else "")
+    print(f"{many(len(made.limits), 'record')} of signals, of {many(made.links, 'link')}")
+    print(*made.notes, sep="\n", end="\n" if made.notes else "")
     return 0
 
 
-def arriving(plans: list[Plan], case: Case) -> list[str]:
-    """What is to be told of links with a signal that lead to a destination."""
-    heads = {link.name: link.head for link in case.links}
-    ends = set(case.destinations)
-    some = [plan.link for plan in plans if heads[plan.link] in ends]
-    return [f"{len(set(some))} of the links end at a destination: who arrives there waits for green as well, as the"
-            f" limit holds all that leave the link"] if some else []
+def optimise(args: argparse.Namespace) -> int:
+    """Finds better plans, and writes the case with them."""
+    if args.to is None:
+        raise Fault("--optimise leaves the case as it is: -o OUT names the folder for the one with better plans")
+    if args.sessions < 1 or args.rounds < 0:
+        raise Fault(f"{min(args.sessions, args.rounds)} is no number of sessions or rounds")
+    with output_folder(args.to):
+        programs = programs_of(args.sumo) if args.sumo else {}
+        found = signalled(args.case, args.program, controllers_of(programs))
+        check_names(args.keep, found)
+        wanted = Wanted(args.least_green, args.keep, args.cycle, args.wave)
+        with searching(found, wanted, args.program, args.sessions) as (search, counted_spent):
+            print(f"as it is: {hours(found.spent)}, with yields counted in this loading {hours(counted_spent)}")
+            print(f"begins with {hours(search.spent)}", flush=True)
+            climb(search, found, args.rounds)
+        write(args, found, {**found.plan, **search.plan}, programs)
+    print(f"{hours(search.spent)} in place of {hours(found.spent)}; {args.to} has the case, {CYCLES_FILE} its plans")
+    if args.sumo:
+        print(f"{args.to}/{PROGRAMS_FILE} has them for SUMO, as a further additional file")
+    return 0
 
 
-def record_of(row: Row, source: Source, case: Case, clock: int) -> Record:
-    """A row of the file."""
-    link, turn = (case_link(row, source, field) for field in ("link", "to"))
-    if link is None:
-        raise row.fault("link",
-                        "this link was contracted, so that it can have no signal; give its green to the one before it")
-    cycle, start, end, offset = (int(row.number(field, default) * 1000)
-                                 for field, default in (("cycle", None), ("green_from", None), ("green_to", None),
-                                                        ("offset", 0)))
-    green = Green(cycle, start, end, offset)
-    check_green(link, green)
-    share = row.number("share") if row.text("share", "") else None
-    times = [time_of(row, field, clock) for field in ("start", "end")]
-    return Record(link, turn or "", share, green, times[0] or 0,
-                  case.setup.horizon_ms if times[1] is None else times[1])
+def controllers_of(programs: Mapping[str, Program]) -> dict[str, Controller]:
+    """The controllers of approaches by their programs."""
+    return {
+        edge: Controller(one.signal, cycle_of(one), tuple(accumulate([0, *(length for length, _ in one.phases[:-1])])))
+        for edge, one in programs.items()
+    }
 
 
-def case_link(row: Row, source: Source, field: str) -> str | None:
-    """The link of the case for a link of the source; an empty text where there is none in the field, none where it was
-    contracted."""
-    name = row.text(field, "" if field == "to" else None)
-    if name and name not in source.links:
-        raise row.fault(field, "it is no link of the case, nor of its source")
-    return source.links[name].link if name else ""
+def check_names(keep: Sequence[str], found: Signalled) -> None:
+    """A Fault where a junction that is to keep its plan is none with signals."""
+    names = [one.name for one in found.junctions]
+    for name in keep:
+        if name not in names:
+            raise Fault(f"no junction with signals is called {name}; the first ones are {' '.join(names[:MOST_NAMED])}")
 
 
-def time_of(row: Row, field: str, clock: int) -> int | None:
-    """A time after the start of the case in ms, from a clock time or seconds; none where it is empty."""
-    text = row.text(field, "")
-    if not text:
-        return None
-    time = moment_ms(row, field) - (clock if ":" in text else 0)
-    if time < 0 and field == "end":
-        raise row.fault(field, f"it ends before the case begins at {clock_text(clock)}")
-    return max(0, time)
+def write(args: argparse.Namespace, found: Signalled, plan: Plan, programs: Mapping[str, Program]) -> None:
+    """Writes the case with a plan, and programs for SUMO where they are asked for."""
+    held = [(one, plan[one.name], programs.get(one.turns[0].approach)) for one in found.junctions]
+    with together():
+        write_result(args.case, args.to, timed(found.turns, found.junctions, plan), found.volumes)
+        if args.sumo:
+            known = [(one, timing, program) for one, timing, program in held if program is not None]
+            write_programs(args.to, programs_text(known, read_clock(args.case) or 0))
 
 
-def plans_of(records: list[Record], case: Case) -> tuple[list[Plan], list[str]]:
-    """The plans by link and time, those by turn made plans of the link."""
-    groups: dict[tuple[str, int, int], list[Record]] = {}
-    for record in records:
-        groups.setdefault((record.link, record.start_ms, record.end_ms), []).append(record)
-    turns = None
-    plans, turned = [], 0
-    for (link, start, end), group in groups.items():
-        if end <= start:
-            raise Fault(f"link {link}: a plan from {start / 1000:g} to {end / 1000:g} s; it begins before it ends")
-        if not any(record.turn for record in group):
-            plans.append(Plan(link, tuple(record.green for record in group), start, end))
-            continue
-        if turns is None and any(record.share is None for record in group):
-            turns = turn_shares(case.links, case.demand, case.splits or [])
-        plans.append(Plan(link, greens_of_turns(link, group, (turns or {}).get(link, {})), start, end))
-        turned += 1
-    notes = ([f"{turned} plans have greens by turn: the limit of a link counts each green for the share of its turn"]
-             if turned else [])
-    overlapping(plans)
-    return plans, notes
+def climb(search: Search, found: Signalled, rounds: int) -> None:
+    """Runs the rounds, each told as it is done; an interrupt ends them, and the best is kept."""
+    try:
+        for one in search.run(found.delays, rounds):
+            print(
+                f"round {one.number}: {hours(one.spent)}, {counted(one.changed, 'junction')} of"
+                f" {len(search.junctions)} changed, {one.loadings} loadings",
+                flush=True,
+            )
+    except KeyboardInterrupt:
+        print("interrupted: the best plans so far are kept", file=sys.stderr)
 
 
-def overlapping(plans: list[Plan]) -> None:
-    """A Fault where two plans of a link run at one time."""
-    last: dict[str, Plan] = {}
-    for plan in sorted(plans, key=lambda plan: (plan.link, plan.start_ms)):
-        before = last.get(plan.link)
-        if before is not None and before.end_ms > plan.start_ms:
-            raise Fault(f"link {plan.link}: a plan begins at {plan.start_ms / 1000:g} s, while one runs until"
-                        f" {before.end_ms / 1000:g} s; give each an end")
-        last[plan.link] = plan
-
-
-def greens_of_turns(link: str, group: list[Record], flows: dict[str, float]) -> tuple[Green, ...]:
-    """The greens of a link of those of its turns."""
-    greens: dict[str, list[Green]] = {}
-    shares: dict[str, Fraction] = {}
-    for record in group:
-        if not record.turn:
-            raise Fault(f"link {link}: some of its greens name a turn and some do not; name all, or none")
-        greens.setdefault(record.turn, []).append(record.green)
-        shares[record.turn] = (record.share if record.share is not None
-                               else Fraction(flows.get(record.turn, 0.0)).limit_denominator(1_000_000))
-    return by_turn(greens, shares)
-
-
-def limits_of(plans: list[Plan], case: Case, even: bool) -> list[Limit]:
-    """The limits of all plans, by link and slot."""
-    links = {link.name: link for link in case.links}
-    make = even_limits if even else exit_limits
-    limits: list[Limit] = []
-    for plan in plans:
-        limits += make(plan, capacity=links[plan.link].capacity(case.setup.step_ms), step_ms=case.setup.step_ms,
-                       slots=case.setup.slots)
-    return limits
-
-
+def hours(time: int) -> str:
+    """Vehicle time in hours."""
+    return f"{HOURS.show(time)} {HOURS.name}"

@@ -3,8 +3,6 @@
 Nothing is destroyed. What stands there under one of the three names is replaced only where it is what was installed, by
 the sums that were written with it; the new is written beside it, under a name of its own, and then renamed.
 """
-import contextlib
-import fcntl
 import os
 import shutil
 import tempfile
@@ -12,7 +10,8 @@ from collections.abc import Iterator
 from pathlib import Path
 
 from ..errors import Fault
-from .sums import program_of, read_sums, sum_of, sums_text
+from ..replacing import alone_in
+from .sums import program_path, read_sums, sum_of, sums_text
 
 PROGRAM, COMMAND, PACKAGE = "ltm", "ltm-tools", "ltm_tools"
 # in the package's folder: what was installed, and what was there before it, which a cut installation leaves
@@ -27,8 +26,9 @@ def files_of(path: Path) -> Iterator[Path]:
         return
     for folder, folders, names in os.walk(path):
         folders[:] = [name for name in folders if name != CACHE]
-        yield from (Path(folder, name) for name in [*names,
-                                                    *(name for name in folders if Path(folder, name).is_symlink())])
+        yield from (
+            Path(folder, name) for name in [*names, *(name for name in folders if Path(folder, name).is_symlink())]
+        )
 
 
 def check_place(top: Path, into: Path) -> None:
@@ -49,20 +49,23 @@ def installed_in(into: Path) -> list[tuple[str, str]]:
         if not os.path.lexists(into / name):
             continue
         if (into / name).is_dir() and (name != PACKAGE or not mark.is_file()):
-            raise Fault(f"{into / name} is no copy that was installed here, so nothing is: move it away, or name"
-                        f" another folder")
+            raise Fault(
+                f"{into / name} is no copy that was installed here, so nothing is: move it away, or name"
+                f" another folder"
+            )
         for path in files_of(into / name):
             entry = (path.relative_to(into).as_posix(), "" if path.is_symlink() or not path.is_file() else sum_of(path))
             if path != mark and entry not in marked:
-                raise Fault(f"{path} is not as it was installed here, so nothing is: move it away, or name another"
-                            f" folder")
+                raise Fault(
+                    f"{path} is not as it was installed here, so nothing is: move it away, or name another folder"
+                )
             found.append(entry)
     return found
 
 
 def make_copy(top: Path, made: Path, before: list[tuple[str, str]]) -> None:
     """Copies all into a new folder, with the mark; whatever the clone's modes are, the copy can be written."""
-    sources = [(program_of(top), PROGRAM), (top / "tools" / COMMAND, COMMAND)]
+    sources = [(program_path(top), PROGRAM), (top / "tools" / COMMAND, COMMAND)]
     package = top / "tools" / PACKAGE
     sources += [(path, f"{PACKAGE}/{path.relative_to(package).as_posix()}") for path in files_of(package)]
     for source, name in sources:
@@ -73,8 +76,9 @@ def make_copy(top: Path, made: Path, before: list[tuple[str, str]]) -> None:
             mode = target.stat().st_mode
             target.chmod(mode | (mode & 0o444) >> 2)
     sums = {(name, sum_of(made / name)) for _, name in sources}
-    (made / PACKAGE / MARK).write_text(sums_text(sums | {entry for entry in before if entry[0] in (PROGRAM, COMMAND)}),
-                                       encoding="utf-8")
+    (made / PACKAGE / MARK).write_text(
+        sums_text(sums | {entry for entry in before if entry[0] in (PROGRAM, COMMAND)}), encoding="utf-8"
+    )
 
 
 def put(new: Path, old: Path) -> None:
@@ -91,23 +95,11 @@ def put(new: Path, old: Path) -> None:
         raise
 
 
-@contextlib.contextmanager
-def alone_in(into: Path) -> Iterator[None]:
-    """Has a second installation into the folder wait."""
-    folder = os.open(into, os.O_RDONLY | os.O_DIRECTORY)
-    try:
-        with contextlib.suppress(OSError):  # where folders cannot be locked there is none to wait for
-            fcntl.flock(folder, fcntl.LOCK_EX)
-        yield
-    finally:
-        os.close(folder)
-
-
 def install(top: Path, into: Path) -> None:
     """Installs the program and the tools of a clone."""
     check_place(top, into)
     into.mkdir(parents=True, exist_ok=True)
-    with alone_in(into):
+    with alone_in([str(into)]):  # a second installation into the folder waits
         before = installed_in(into)
         made = Path(tempfile.mkdtemp(prefix=".ltm-new-", dir=into))
         try:

@@ -1,12 +1,11 @@
-"""What a proof of the program has to do: its crates, what each costs, and how long they take side by side.
+"""What a proof of the program has to do: its crates, what each costs, and how long the rest takes.
 
 Crates and what they stand on are read from `crates.txt`, their costs from the table in CONTRIBUTING.md. No crate but
 the program's own is named here.
 """
-import heapq
 import re
 from collections.abc import Iterable, Mapping
-from dataclasses import dataclass, field
+from graphlib import CycleError, TopologicalSorter
 from pathlib import Path
 
 from ..errors import Fault
@@ -15,6 +14,7 @@ from ..files import read_text
 PROGRAM = "ltm"
 PREFIX = "ltm_"  # which the table leaves out
 TRUSTED_SECONDS = 240  # for so long what a run shows weighs less than the table
+MOST_PACE = 2.5  # processor seconds of the table in a second, on however many processors: crates wait for one another
 Needs = dict[str, list[str]]  # of each crate, the crates of the repository that it stands on
 
 
@@ -33,20 +33,16 @@ def stands_on(needs: Needs, program: str = PROGRAM) -> Needs:
     if program not in needs:
         raise Fault(f"crates.txt has no crate {program}")
     found: Needs = {}
-    begun: set[str] = set()
-
-    def visit(name: str) -> None:
-        if name in found:
-            return
-        if name in begun:
-            raise Fault(f"crates.txt: {name} stands on itself")
-        begun.add(name)
-        for need in needs[name]:
-            visit(need)
-        found[name] = needs[name]
-
-    visit(program)
-    return found
+    wanted = [program]
+    while wanted:
+        name = wanted.pop()
+        if name not in found:
+            found[name] = needs[name]
+            wanted += needs[name]
+    try:
+        return {name: found[name] for name in TopologicalSorter(found).static_order()}
+    except CycleError as error:
+        raise Fault(f"crates.txt: {error.args[1][0]} stands on itself") from None
 
 
 def read_costs(text: str) -> dict[str, int]:
@@ -80,102 +76,28 @@ def costs_of(top: Path, crates: Iterable[str]) -> dict[str, float]:
     return {name: float(cost) if (cost := known[name]) is not None else 1 + pace * sizes[name] for name in sizes}
 
 
-@dataclass(slots=True)
-class Schedule:
-    """When each crate begins and ends, in seconds, where so many are proved side by side, the longest chain first."""
-
-    lanes: int
-    begins: dict[str, float] = field(default_factory=dict)
-    ends: dict[str, float] = field(default_factory=dict)
-
-    @property
-    def length(self) -> float:
-        """How long the whole schedule takes."""
-        return max(self.ends.values(), default=0.0)
+def tail_of(needs: Needs) -> list[str]:
+    """The last crates, each of which waits for all others before it, so that it can have all processors."""
+    order, tail = TopologicalSorter(needs), list[str]()
+    order.prepare()
+    while order.is_active():
+        ready = order.get_ready()
+        tail = [*tail, *ready] if len(ready) == 1 else []
+        order.done(*ready)
+    return tail
 
 
-def schedule(needs: Needs, costs: Mapping[str, float], lanes: int, done: Iterable[str] = ()) -> Schedule:
-    """The crates that are left, each on a lane as soon as those that it stands on are done, the longest chain first."""
-    done = set(done)
-    above: dict[str, list[str]] = {name: [] for name in needs}
-    for name, lower in needs.items():
-        for need in lower:
-            above[need].append(name)
-    chain: dict[str, float] = {}
-    for name in reversed(list(needs)):
-        chain[name] = costs[name] + max((chain[upper] for upper in above[name]), default=0.0)
-    waits = {name: sum(need not in done for need in lower) for name, lower in needs.items() if name not in done}
-    ready = sorted((name for name, count in waits.items() if count == 0), key=lambda name: -chain[name])
-    made, now = Schedule(lanes), 0.0
-    running: list[tuple[float, str]] = []
-    while ready or running:
-        while ready and len(running) < lanes:
-            name = ready.pop(0)
-            made.begins[name] = now
-            heapq.heappush(running, (now + costs[name], name))
-        now, name = heapq.heappop(running)
-        made.ends[name] = now
-        for upper in above[name]:
-            waits[upper] -= 1
-            if waits[upper] == 0:
-                ready.append(upper)
-        ready.sort(key=lambda name: -chain[name])
-    return made
-
-
-def speed(lanes: int) -> float:
-    """How much faster a crate is taken to be proved on all processors than on one: half as many times, and twice at
-    most."""
-    return max(1.0, min(2.0, lanes / 2))
-
-
-def tail_of(needs: Needs, costs: Mapping[str, float], lanes: int, program: str = PROGRAM) -> list[str]:
-    """The last crates, in order, that are proved one by one on all processors: the program, and those before it for
-    which that takes less time than side by side, since they stand on one another."""
-    made = schedule(needs, costs, lanes)
-    order = sorted((name for name in needs if name != program), key=lambda name: (-made.begins[name], -made.ends[name]))
-    tail, best, work = [program], [program], costs[program]
-    most = made.length - made.begins[program] - work / speed(lanes)
-    for name, before in zip(order, [*order[1:], None]):
-        tail, work = [name, *tail], work + costs[name]
-        if before is not None and made.begins[before] == made.begins[name]:
-            continue  # those that begin together go together
-        gain = made.length - made.begins[name] - work / speed(lanes)
-        if gain > most:
-            best, most = tail, gain
-    rank = {name: place for place, name in enumerate(needs)}
-    return sorted(best, key=lambda name: rank[name])
-
-
-class Plan:
+class ProofPlan:
     """What is to be proved, in which order, and how long it takes."""
 
-    def __init__(self, needs: Needs, costs: Mapping[str, float], lanes: int, program: str = PROGRAM) -> None:
-        self.needs, self.costs, self.lanes = needs, costs, lanes
-        self.tail = tail_of(needs, costs, lanes, program)
+    def __init__(self, needs: Needs, costs: Mapping[str, float], lanes: int) -> None:
+        self.needs, self.costs, self.pace = needs, costs, min(lanes, MOST_PACE)
+        self.tail = tail_of(needs)
         self.side_by_side = {name: lower for name, lower in needs.items() if name not in self.tail}
 
-    def length(self, done: Iterable[str] = ()) -> float:
-        """The seconds that are left, by the costs of the table."""
-        done = set(done)
-        alone = sum(self.costs[name] for name in self.tail if name not in done)
-        return schedule(self.side_by_side, self.costs, self.lanes, done).length + alone / speed(self.lanes)
-
-    def scale(self, kept: Iterable[str], done: Iterable[str], at: float, passed: float) -> float:
-        """How many times slower than the table this machine has shown to be. A run began with the crates `kept`; those
-        of `done` are proved since `at` seconds, and `passed` seconds are gone. It is 1 at first, and is shown by what
-        is done, or late."""
-        kept, done = set(kept), set(done)
-        gone = self.length(kept) - self.length(done)
-        ready = [name for name, lower in self.needs.items() if name not in done and done.issuperset(lower)]
-        coming = min((self.costs[name] for name in ready), default=0.0)
-        shown = at / gone if gone > 0 else 1.0
-        if gone + coming > 0:
-            shown = max(shown, passed / (gone + coming))
-        return (TRUSTED_SECONDS + passed * shown) / (TRUSTED_SECONDS + passed)
-
-    def seconds_left(self, kept: Iterable[str], done: Iterable[str], at: float, passed: float) -> float:
-        """How many seconds the rest takes on this machine."""
-        kept, done = set(kept), set(done)
-        scale = self.scale(kept, done, at, passed)
-        return max(scale * self.length(done) - (passed - at), 0.0)
+    def seconds_left(self, kept: Iterable[str], done: Iterable[str], passed: float) -> float:
+        """How many seconds the rest takes at the pace of this run, which began with the crates `kept`: of what it has
+        proved in the seconds that have passed, and at first of what the table says."""
+        work = sum(self.costs[name] for name in set(done).difference(kept))
+        left = sum(self.costs[name] for name in set(self.needs).difference(done))
+        return left * (TRUSTED_SECONDS + passed) / (TRUSTED_SECONDS * self.pace + work)

@@ -23,14 +23,16 @@ from typing import Protocol
 from ..errors import Fault
 from ..files import read_text
 from ..program import BUILT, CLONE
-from .plan import PROGRAM, Needs, Plan, costs_of
-from .sums import Sums, write_sums
+from .plan import PROGRAM, Needs, ProofPlan, costs_of
+from .sums import Sums, kit, write_sums
 
 MEMORY_A_CRATE = 4 << 30  # bytes that the proof of a crate may take
 PARTS = ("src", "specs", "proofs", "args", "stdin", "stdout", "data")
-NO_RT = ("the command rt of the Rattle kit is not on the path. The kit has the compiler and the prover: without it"
-         " nothing can be "
-         "built here, proved or not, and ltm has to come from a machine that has it (./ltm --install DIR)")
+NO_RT = (
+    "the command rt of the Rattle kit is not on the path. The kit has the compiler and the prover: without it"
+    " nothing can be "
+    "built here, proved or not, and ltm has to come from a machine that has it (./ltm --install DIR)"
+)
 
 
 def lanes() -> int:
@@ -43,8 +45,9 @@ def lanes() -> int:
 
 def workplace(top: Path) -> Path:
     """The folder, outside the clone, of the copy that is proved."""
-    cache = os.environ.get("XDG_CACHE_HOME") or (os.path.join(os.environ["HOME"], ".cache") if os.environ.get("HOME")
-                                                 else tempfile.gettempdir())
+    cache = os.environ.get("XDG_CACHE_HOME") or (
+        os.path.join(os.environ["HOME"], ".cache") if os.environ.get("HOME") else tempfile.gettempdir()
+    )
     return Path(cache) / "ltm-prove" / hashlib.sha256(os.fsencode(top)).hexdigest()[:12]
 
 
@@ -97,11 +100,6 @@ def is_proved(words: str) -> bool:
     return not words.strip() or re.search(r"(?m)^logic=proved\b", words) is not None
 
 
-def kit() -> str:
-    """The identity of the kit that proves."""
-    return subprocess.run(["rt", "version"], stdin=subprocess.DEVNULL, capture_output=True, text=True).stdout
-
-
 def stamps_of(place: Path, needs: Needs) -> dict[str, str]:
     """A sum of all that the proof of each crate rests on: the kit, its own texts, and those of the crates below it."""
     stamps: dict[str, str] = {}
@@ -124,7 +122,7 @@ def kept_in(place: Path, stamps: dict[str, str]) -> set[str]:
         return set()
 
 
-class Told(Protocol):
+class ProofProgress(Protocol):
     """Who is told how far a run is."""
 
     def now(self, text: str, is_last: bool) -> None:
@@ -137,14 +135,13 @@ class Told(Protocol):
 class Proof:
     """A run: what is done, and where its log is."""
 
-    def __init__(self, top: Path, place: Path, needs: Needs, jobs: int, program: str, told: Told) -> None:
+    def __init__(self, top: Path, place: Path, needs: Needs, jobs: int, told: ProofProgress) -> None:
         self.place, self.needs, self.jobs, self.told = place, needs, jobs, told
-        self.plan = Plan(needs, costs_of(top, needs), jobs, program)
+        self.plan = ProofPlan(needs, costs_of(top, needs), jobs)
         self.stamps = stamps_of(place, needs)
         self.kept = kept_in(place, self.stamps)
         self.done = set(self.kept)
         self.began = time.monotonic()
-        self.at = 0.0  # the seconds after which a crate was done last
         self.log = place / "log"
 
     def run(self) -> None:
@@ -159,32 +156,33 @@ class Proof:
             put_back(self.place)
         self.list_crates(self.needs)
         for name in self.plan.tail:
-            words = (["run", "--jobs", str(self.jobs), "--", "try", "1", "4"] if name == PROGRAM
-                     else ["lib", "--jobs", str(self.jobs)])
+            words = (
+                ["run", "--jobs", str(self.jobs), "--", "try", "1", "4"]
+                if name == PROGRAM
+                else ["lib", "--jobs", str(self.jobs)]
+            )
             self.rt(words, self.place / "tree" / "crates" / name)
             self.keep([name])
         self.tell(is_last=True)
 
     def keep(self, names: Iterable[str]) -> None:
         """Notes that these crates are proved as they stand, for this run and the next."""
-        before = len(self.done)
         self.done.update(names)
-        if len(self.done) > before:
-            self.at = time.monotonic() - self.began
         proved = {name: self.stamps[name] for name in self.done}
         (self.place / "proved.json").write_text(json.dumps(proved, indent=0), encoding="ascii")
 
     def list_crates(self, names: Sequence[str] | Needs) -> None:
         """Writes the crates.txt of the copy, with the kit's libraries as the clone has them."""
-        lines = lines_of(read_text(self.place / "all_crates.txt"), names)
+        lines = crates_lines(read_text(self.place / "all_crates.txt"), names)
         (self.place / "tree" / "crates.txt").write_text("".join(f"{line}\n" for line in lines), encoding="ascii")
 
     def rt(self, words: list[str], folder: Path, look: Callable[[], None] | None = None) -> None:
         """Runs rt in a folder, and tells meanwhile how far it is."""
         try:
             with open(self.log, "ab") as log:
-                process = subprocess.Popen(["rt", *words], cwd=folder, stdin=subprocess.DEVNULL, stdout=log, stderr=log,
-                                           start_new_session=True)
+                process = subprocess.Popen(
+                    ["rt", *words], cwd=folder, stdin=subprocess.DEVNULL, stdout=log, stderr=log, start_new_session=True
+                )
         except OSError:
             raise Fault(NO_RT) from None
         try:
@@ -207,13 +205,19 @@ class Proof:
         """The crates that rt has told of so far: a line `== NAME` stands before what it says of each."""
         said = self.log.read_text(encoding="utf-8", errors="replace")
         told = re.split(r"(?m)^== (\w+)$", said)
-        self.keep(name for name, words in zip(told[1::2], told[2::2]) if name in self.needs and name not in self.done
-                  and is_proved(words))
+        self.keep(
+            name
+            for name, words in zip(told[1::2], told[2::2])
+            if name in self.needs and name not in self.done and is_proved(words)
+        )
 
     def fail(self, words: list[str], status: int) -> None:
         self.told.lines(self.log.read_text(encoding="utf-8", errors="replace").splitlines()[-20:])
-        why = (f"was killed by signal {-status}, perhaps for want of memory" if status < 0 else f"ended with status"
-               f" {status}")
+        why = (
+            f"was killed by signal {-status}, perhaps for want of memory"
+            if status < 0
+            else f"ended with status {status}"
+        )
         raise Fault(f"rt {' '.join(words)} {why}; all that it said is in {self.log}, and a new start goes on from here")
 
     def tell(self, is_last: bool = False) -> None:
@@ -221,12 +225,12 @@ class Proof:
         passed, left = time.monotonic() - self.began, len(self.needs) - len(self.done)
         text = f"{len(self.done)} of {len(self.needs)} crates proved, {left} left, {int(passed // 60)} minutes gone"
         if left:
-            seconds = self.plan.seconds_left(self.kept, self.done, self.at, passed)
+            seconds = self.plan.seconds_left(self.kept, self.done, passed)
             text += f", about {max(1, math.ceil(seconds / 60))} more"
         self.told.now(text, is_last)
 
 
-def lines_of(text: str, names: Sequence[str] | Needs) -> list[str]:
+def crates_lines(text: str, names: Sequence[str] | Needs) -> list[str]:
     """The lines of a crates.txt that list these crates."""
     lines = [line for line in text.splitlines() if line.partition("#")[0].partition(":")[1]]
     return [line for line in lines if line.split(":")[0].split()[0] in names]

@@ -1,5 +1,5 @@
 """What was proved, told by sums: beside the program stands `ltm.sums`, with the sum of the program and of each text
-that its proof rests on, as `sha256sum` writes them.
+that its proof rests on, as `sha256sum` writes them, below a line with the kit that proved it.
 
 A program that `rt` itself has built has no such file. It is taken as proved where `rt` left what it leaves of a proved
 build, and no text was touched since, by the times at which files were last changed, which nobody can set. Its sums are
@@ -8,6 +8,7 @@ then written, and they count.
 import hashlib
 import os
 import re
+import subprocess
 from collections.abc import Iterable, Iterator
 from pathlib import Path
 
@@ -21,7 +22,7 @@ NOT_BUILT = "the program is not proved yet"
 Sums = dict[str, str]  # of each file, by its name from the top of the clone
 
 
-def program_of(top: Path) -> Path:
+def program_path(top: Path) -> Path:
     """Where the program of a clone lies."""
     return top / "crates" / PROGRAM / "out" / PROGRAM
 
@@ -62,18 +63,29 @@ def read_sums(path: Path) -> list[tuple[str, str]]:
     return [(name, sum_) for sum_, name in re.findall(r"(?m)^([0-9a-f]{64})  (.+)$", text)]
 
 
+def kit() -> str:
+    """The identity of the kit on the path, which proves; an empty text where there is none."""
+    try:
+        told = subprocess.run(["rt", "version"], stdin=subprocess.DEVNULL, capture_output=True, text=True, check=True)
+    except (OSError, subprocess.CalledProcessError):
+        return ""
+    return told.stdout.strip()
+
+
 def write_sums(top: Path, sums: Sums) -> None:
-    """Writes beside the program of a clone what it was made of."""
-    program = program_of(top)
+    """Writes beside the program of a clone what it was made of, and by which kit it was proved."""
+    program = program_path(top)
     named = {**sums, program.relative_to(top).as_posix(): sum_of(program)}
     made = program.with_name(f"{PROGRAM}.sums.{os.getpid()}")
-    made.write_text(sums_text(named.items()), encoding="utf-8")
+    proved_by = kit()
+    first = f"# proved by {proved_by}\n" if proved_by else ""  # a comment, which `sha256sum --check` passes over
+    made.write_text(first + sums_text(named.items()), encoding="utf-8")
     made.replace(program.with_name(f"{PROGRAM}.sums"))
 
 
 def why_not(top: Path) -> str:
     """Why the program of a clone is not proved as the sources stand; an empty text where it is."""
-    program = program_of(top)
+    program = program_path(top)
     if not (program.is_file() and os.access(program, os.X_OK)):
         return NOT_BUILT
     crates = stands_on(read_crates(read_text(top / "crates.txt")))
@@ -104,16 +116,17 @@ def is_left_by_rt(top: Path, crates: Iterable[str], sum_: str) -> bool:
     crates = list(crates)
     try:
         limit = when_run(top, sum_) or when_passed(top, crates)
-        folders: list[str | Path] = [folder for crate in crates for part in PARTS
-                                     for folder, _, _ in os.walk(top / "crates" / crate / part)]
+        folders: list[str | Path] = [
+            folder for crate in crates for part in PARTS for folder, _, _ in os.walk(top / "crates" / crate / part)
+        ]
         if any(os.stat(path).st_ctime_ns >= limit for path in [*folders, *texts(top, crates)]):
             return False
-        return all(is_whole(top / "crates" / crate, limit) for crate in crates)
+        return all(is_untouched(top / "crates" / crate, limit) for crate in crates)
     except OSError:
         return False
 
 
-def is_whole(crate: Path, limit: int) -> bool:
+def is_untouched(crate: Path, limit: int) -> bool:
     """Whether none of a crate's folders can have been taken out: it was touched last when `rt` made its `out`
     folder."""
     out = crate / "out"
@@ -123,7 +136,7 @@ def is_whole(crate: Path, limit: int) -> bool:
 def when_run(top: Path, sum_: str) -> int:
     """When `rt run` had built a program with this sum, by the stamp that it leaves where no text changed meanwhile;
     else 0."""
-    stamp = program_of(top).with_name(f"{PROGRAM}.stamp")
+    stamp = program_path(top).with_name(f"{PROGRAM}.stamp")
     if not stamp.is_file() or not stamp.read_bytes().endswith(sum_.encode()):
         return 0
     return stamp.stat().st_mtime_ns
@@ -133,7 +146,7 @@ def when_passed(top: Path, crates: Iterable[str]) -> int:
     """When `rt ci` began, or soon after, if it has built the program and has run it since; else 0. It takes all `out`
     folders away first, makes each anew with the crate's proof, and at last writes there what the program has
     written."""
-    program, wrote = program_of(top), program_of(top).with_name("stdout")
+    program, wrote = program_path(top), program_path(top).with_name("stdout")
     if not wrote.is_file() or wrote.stat().st_mtime_ns < program.stat().st_ctime_ns:
         return 0
     if wrote.read_bytes() != (top / "crates" / PROGRAM / "stdout").read_bytes():

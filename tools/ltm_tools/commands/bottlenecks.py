@@ -1,0 +1,246 @@
+"""`ltm-tools bottlenecks`: what a little more and a little less capacity is worth, link by link."""
+from __future__ import annotations
+
+import argparse
+import os
+import sys
+from collections.abc import Iterable, Mapping, Sequence
+from decimal import Decimal
+from fractions import Fraction
+
+from ..case import Case
+from ..case.clock import start_of
+from ..case.source import links_named
+from ..case.streets import read_streets, street_and_id, with_streets
+from ..errors import Fault
+from ..formats import clock_text, counted, exact_or_none
+from ..listing import Cell, TimeUnit, percent, rounded, seconds, text_table, time_unit, vehicles
+from ..worth.spread import Asked, worths
+from ..worth.trials import Effect, Trials
+from ..worth.weighing import MOST_PART, TIMES_ROUNDING, Tried, Worth, by_savings, candidates
+from .arguments import add_format_arguments, add_program_argument, add_start_argument, clock, whole, write_table
+
+NAME = "bottlenecks"
+SUMMARY = "rank stop lines and roads by what a little more, and a little less, of their capacity is worth"
+EXAMPLES = """\
+    ltm-tools bottlenecks examples/corridor --start 7:00
+    ltm-tools bottlenecks CASE --by 10% --from 7:30 --to 8:30 -o worth.csv
+
+Each link that may hold a queue is loaded twice anew, with its capacity raised and lowered by a part; all else stays,
+routes as well. The table has the change of the total travel time of all vehicles, the greatest saving first, and where
+the delay falls and rises most. Where the delay rises elsewhere by much of what it falls, the queue only moves on.
+docs/IMPROVE.md says more.
+"""
+HEADER = ("link", "held by", "veh/h", "more", "travel time", "less", "travel time", "moves on", "delay falls", "rises")
+FIELDS = (
+    "link",
+    "held_by",
+    "capacity_per_h",
+    "more_per_h",
+    "more_travel_time_s",
+    "more_delay_s",
+    "more_arrived",
+    "less_per_h",
+    "less_travel_time_s",
+    "less_delay_s",
+    "less_arrived",
+    "rounding_s",
+    "clear",
+    "delay_falls_s",
+    "delay_rises_s",
+    "falls",
+    "rises",
+)
+MOST_NAMED = 3  # links where delays fall, and where they rise
+
+
+def needs(args: argparse.Namespace) -> Sequence[str]:
+    """The libraries beside Python's own that it cannot do without."""
+    return () if args.scheduler is None else ("distributed",)
+
+
+def add_arguments(parser: argparse.ArgumentParser) -> None:
+    parser.add_argument("case", metavar="CASE", help="the folder of a case")
+    parser.add_argument(
+        "--by", metavar="PERCENT", type=part, default=Fraction(5, 100), help="the part of each capacity to change (5%%)"
+    )
+    parser.add_argument(
+        "--links", metavar="LINK", nargs="+", help="these links alone, by their names in the case or in its source"
+    )
+    for word in ("from", "to"):
+        parser.add_argument(
+            f"--{word}", metavar="CLOCK", type=clock, dest=f"{word}_ms", help=f"change limits {word} this clock time"
+        )
+    add_start_argument(parser)
+    parser.add_argument("--most", metavar="N", type=whole, default=20, help="how many links the text lists (20)")
+    parser.add_argument(
+        "--sessions",
+        metavar="N",
+        type=whole,
+        default=os.cpu_count() or 1,
+        help="how many sessions run on this machine at once (default: one for each processor)",
+    )
+    parser.add_argument(
+        "--scheduler", metavar="ADDRESS", help="run on a Dask cluster with this scheduler, such as tcp://10.0.0.7:8786"
+    )
+    add_format_arguments(parser)
+    add_program_argument(parser)
+
+
+def part(text: str) -> Fraction:
+    """A part of a capacity, in per cent."""
+    found = exact_or_none(text.strip().removesuffix("%"))
+    if found is None or not 0 < found / 100 <= MOST_PART:
+        raise argparse.ArgumentTypeError(
+            f"{text} is no part of a capacity: per cent above 0, at most {MOST_PART * 100}"
+        )
+    return found / 100
+
+
+def run(args: argparse.Namespace) -> int:
+    if args.sessions < 1:
+        raise Fault(f"{args.sessions} sessions cannot run")
+    trials = Trials(args.case, args.program)
+    try:
+        links = weighed_links(args, trials)
+    finally:
+        trials.close()
+    asked = changed_slots(args, trials.case)
+    found = by_savings(
+        watched(worths(args.case, args.program, links, asked, args.sessions, args.scheduler), len(links))
+    )
+    streets = read_streets(args.case)
+    write_table(
+        args,
+        *with_streets(FIELDS, [cells(worth) for worth in found], "link", streets),
+        text(found, len(links), args.most, trials.base.spent, streets),
+    )
+    return 0
+
+
+def weighed_links(args: argparse.Namespace, trials: Trials) -> list[str]:
+    """The links that are to be weighed: those asked for, else those that may hold a queue."""
+    case = trials.case
+    if args.links is None:
+        return [link.name for link in candidates(case, trials.base.delays)]
+    trials.base  # the program takes the case
+    names = {link.name for link in case.links}
+    found = links_named(args.case, case.links, args.links)
+    for name in found:
+        if name not in names:
+            raise Fault(f"the case has no link {name}")
+    return found
+
+
+def changed_slots(args: argparse.Namespace, case: Case) -> Asked:
+    """The slots in which limits are changed, and by which part."""
+    start, step, slots = start_of(args.start, args.case), case.setup.step_ms, case.setup.slots
+    first = 0 if args.from_ms is None else (args.from_ms - start) // step
+    end = slots if args.to_ms is None else -((start - args.to_ms) // step)
+    if not 0 <= first < end <= slots:
+        raise Fault(
+            f"the span to change is not within the case, which lasts from {clock_text(start)} to"
+            f" {clock_text(start + slots * step)}"
+        )
+    return first, end, args.by
+
+
+def watched(found: Iterable[Worth], count: int) -> list[Worth]:
+    """All that is found, of which progress is told where the standard error is a terminal."""
+    worths, shown = [], sys.stderr.isatty()
+    for worth in found:
+        worths.append(worth)
+        if shown:
+            print(f"\r{len(worths)} of {counted(count, 'link')} ", end="", file=sys.stderr, flush=True)
+    if shown:
+        print(file=sys.stderr)
+    return worths
+
+
+def cells(worth: Worth) -> list[Cell]:
+    """A row for programs: capacities in vehicles an hour, times in vehicle seconds, arrivals in vehicles."""
+    effect = effect_of(worth)
+    return [
+        worth.link,
+        worth.kind,
+        tenths(worth.per_hour),
+        *of_tried(worth.more),
+        *of_tried(worth.less),
+        seconds(worth.rounding),
+        int(worth.is_clear),
+        seconds(effect.falls),
+        seconds(effect.rises),
+        " ".join(name for name, _ in delays_changed_most(effect, -1)),
+        " ".join(name for name, _ in delays_changed_most(effect, 1)),
+    ]
+
+
+def of_tried(tried: Tried | None) -> list[Cell]:
+    """A change of a capacity and its effect."""
+    if tried is None:
+        return [None] * 4
+    effect = tried.effect
+    return [tenths(tried.per_hour), seconds(effect.spent), seconds(effect.delay), vehicles(effect.arrived)]
+
+
+def effect_of(worth: Worth) -> Effect:
+    """The effect of more capacity; none where that cannot be."""
+    return worth.more.effect if worth.more else Effect(0, 0, 0, {})
+
+
+def delays_changed_most(effect: Effect, sign: int) -> list[tuple[str, int]]:
+    """The links and origins whose delay falls (-1) or rises (1) most, the most first."""
+    found = [(name, change) for name, change in effect.by_name.items() if sign * change > 0]
+    return sorted(found, key=lambda one: -sign * one[1])[:MOST_NAMED]
+
+
+def tenths(number: Fraction) -> Decimal:
+    """A number to the nearest tenth."""
+    return rounded(number.numerator, number.denominator, 1)
+
+
+def text(found: Sequence[Worth], weighed: int, most: int, spent: int, streets: Mapping[str, str]) -> str:
+    """The table for people, with what is to be known of it below."""
+    unit = time_unit(spent)
+    listed = found[:most]
+    rows = [row(worth, unit, streets) for worth in listed]
+    lines = [
+        f"{counted(weighed, 'link')} tried, {counted(len(found), 'link')} with an effect, {len(listed)} listed; "
+        f"total travel time {unit.show(spent)} {unit.name}\n",
+        text_table(HEADER, rows) if rows else "",
+    ]
+    hidden = [worth.link for worth in listed if not worth.is_clear]
+    if hidden:
+        lines.append(
+            f"~ less than {TIMES_ROUNDING} times what rounding to thousandths makes there: {', '.join(hidden)}\n"
+        )
+    return "".join(lines)
+
+
+def row(worth: Worth, unit: TimeUnit, streets: Mapping[str, str]) -> list[Cell]:
+    """A row for people."""
+    effect = effect_of(worth)
+
+    def named(sign: int) -> str:
+        return ", ".join(f"{name} {signed(unit.show(change))}" for name, change in delays_changed_most(effect, sign))
+
+    def told(tried: Tried | None) -> list[Cell]:
+        if tried is None:
+            return [None, None]
+        return [signed(tenths(tried.per_hour)), ("" if worth.is_clear else "~") + signed(unit.show(tried.effect.spent))]
+
+    return [
+        street_and_id(worth.link, streets),
+        worth.kind,
+        tenths(worth.per_hour),
+        *told(worth.more),
+        *told(worth.less),
+        f"{percent(effect.rises, effect.falls)} %" if effect.falls else None,
+        named(-1),
+        named(1),
+    ]
+
+
+def signed(number: Decimal) -> str:
+    """A number with its sign."""
+    return f"{number:+f}" if number else format(abs(number), "f")

@@ -1,0 +1,66 @@
+"""The sections of the page, in order."""
+from . import answers, speeds, towns
+from .page import Section
+
+SECTIONS = (
+    Section(
+        "speed",
+        "Beside a plain engine",
+        "The plain engine is a program in Rust for the same rules, written for speed and without proofs. It does "
+        "not belong to the repository; `--plain PROGRAM` names it, and its answers have to be the same, byte for "
+        "byte.",
+        speeds.beside_plain,
+    ),
+    Section(
+        "sizes",
+        "How large",
+        "Grids of roads on which vehicles go from every node to each destination, by the fastest routes.",
+        speeds.sizes,
+    ),
+    Section(
+        "sumo",
+        "Beside SUMO",
+        "The [town and the region](../examples/from_sumo/README.md) of SUMO's generator, with their vehicles on "
+        "the routes that they come with, imported with links as a whole.",
+        towns.beside_sumo,
+        needs_sumo=True,
+    ),
+    Section(
+        "imports",
+        "Imports and turns",
+        "`from-sumo` over the same networks, with [crossings](TURNS.md) as they are and with links as a whole.",
+        towns.imports,
+        needs_sumo=True,
+    ),
+    Section(
+        "live",
+        "The live map",
+        "What [the live map](LIVE.md) asks of its server. The map is to be drawn within 2,000 ms of opening the "
+        "page, within 100 ms of a settled change (150 with thousands of links), and within 33 ms of a step of the "
+        "slider.",
+        answers.live,
+        needs_sumo=True,
+    ),
+    Section(
+        "assign",
+        "Assignment and closures",
+        "[`assign`](ASSIGN.md) with its default options, and [`closures`](ASSIGN.md#the-effect-of-a-closure) of the "
+        "result.",
+        towns.assigning,
+        needs_sumo=True,
+    ),
+    Section(
+        "sweep",
+        "Many scenarios",
+        "[`sweep`](SWEEP.md) over closures of five minutes.",
+        towns.sweeping,
+        needs_sumo=True,
+    ),
+    Section(
+        "files",
+        "Files and editors",
+        "Curve files of a grid of 3,480 links, map pages, and eight editors of the smallest case.",
+        answers.files,
+        needs_sumo=True,
+    ),
+)
