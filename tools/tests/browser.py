@@ -13,14 +13,16 @@ import urllib.request
 from typing import Any
 
 from firefox import FIREFOX, Firefox
-from support import FolderTest
+from support import FolderTest, needs
 
 CHROMIUM, DRIVER = shutil.which("chromium"), shutil.which("chromedriver")
-NULL, SHIFT, CTRL, TAB, ENTER, RIGHT = "\ue000", "\ue008", "\ue009", "\ue004", "\ue007", "\ue014"  # in WebDriver
+NULL, SHIFT, CTRL, TAB, ENTER = "\ue000", "\ue008", "\ue009", "\ue004", "\ue007"  # in WebDriver
+LEFT, RIGHT = "\ue012", "\ue014"
 HELD = (SHIFT, CTRL)
 IN_FIREFOX = os.environ.get("LTM_BROWSER") == "firefox"
-needs_browser = unittest.skipUnless(FIREFOX if IN_FIREFOX else CHROMIUM and DRIVER,
-                                    f"{'firefox-esr' if IN_FIREFOX else 'chromium and chromium-driver'} is not there")
+needs_browser = (
+    unittest.skipUnless(FIREFOX, "not installed: firefox-esr") if IN_FIREFOX else needs("chromium", "chromium-driver")
+)
 
 
 class Browser:
@@ -30,8 +32,9 @@ class Browser:
         with socket.socket() as free:
             free.bind(("127.0.0.1", 0))
             port = free.getsockname()[1]
-        self.process = subprocess.Popen([str(DRIVER), f"--port={port}"], stdout=subprocess.DEVNULL,
-                                        stderr=subprocess.DEVNULL)
+        self.process = subprocess.Popen(
+            [str(DRIVER), f"--port={port}"], stdout=subprocess.DEVNULL, stderr=subprocess.DEVNULL
+        )
         self.base, self.session = f"http://127.0.0.1:{port}", ""
         try:
             self.begin()
@@ -46,11 +49,14 @@ class Browser:
                 break
             except OSError:
                 time.sleep(0.05)
-        chrome = {"binary": CHROMIUM, "args": ["--headless=new", "--no-sandbox", "--disable-gpu",
-                                               "--window-size=1400,900"]}
+        chrome = {
+            "binary": CHROMIUM,
+            "args": ["--headless=new", "--no-sandbox", "--disable-gpu", "--window-size=1400,900"],
+        }
         wanted = {"browserName": "chrome", "goog:loggingPrefs": {"browser": "ALL"}, "goog:chromeOptions": chrome}
-        self.session = "/session/" + self.call("POST", "/session",
-                                               {"capabilities": {"alwaysMatch": wanted}})["sessionId"]
+        self.session = (
+            "/session/" + self.call("POST", "/session", {"capabilities": {"alwaysMatch": wanted}})["sessionId"]
+        )
 
     def call(self, method: str, path: str, body: object = None) -> Any:
         data = None if body is None else json.dumps(body).encode()
@@ -69,8 +75,9 @@ class Browser:
 
     def size(self, width: int, height: int) -> None:
         """Makes the window so large."""
-        self.command("Emulation.setDeviceMetricsOverride", width=width, height=height, deviceScaleFactor=1,
-                     mobile=False)
+        self.command(
+            "Emulation.setDeviceMetricsOverride", width=width, height=height, deviceScaleFactor=1, mobile=False
+        )
 
     def until(self, script: str, *args: object) -> None:
         """Waits until a script returns what is true."""
@@ -100,16 +107,22 @@ class Browser:
 
     def click(self, x: float, y: float) -> None:
         """A click of the mouse at a point of the window."""
-        steps = [{"type": "pointerMove", "duration": 0, "x": round(x), "y": round(y)},
-                 {"type": "pointerDown", "button": 0}, {"type": "pointerUp", "button": 0}]
-        self.call("POST", self.session + "/actions",
-                  {"actions": [{"type": "pointer", "id": "mouse", "parameters": {"pointerType": "mouse"},
-                                "actions": steps}]})
+        steps = [
+            {"type": "pointerMove", "duration": 0, "x": round(x), "y": round(y)},
+            {"type": "pointerDown", "button": 0},
+            {"type": "pointerUp", "button": 0},
+        ]
+        self.call(
+            "POST",
+            self.session + "/actions",
+            {"actions": [{"type": "pointer", "id": "mouse", "parameters": {"pointerType": "mouse"}, "actions": steps}]},
+        )
 
     def press(self, selector: str, keys: str) -> None:
         """Keys into an element."""
-        element = next(iter(self.call("POST", self.session + "/element",
-                                      {"using": "css selector", "value": selector}).values()))
+        element = next(
+            iter(self.call("POST", self.session + "/element", {"using": "css selector", "value": selector}).values())
+        )
         self.call("POST", f"{self.session}/element/{element}/value", {"text": keys})
 
     def command(self, name: str, **parameters: object) -> Any:

@@ -13,15 +13,26 @@ from pathlib import Path
 from typing import Any
 
 FIREFOX = shutil.which("firefox-esr") or shutil.which("firefox")
-COMMANDS = {"url": "Navigate", "execute/sync": "ExecuteScript", "actions": "PerformActions", "element": "FindElement",
-            "screenshot": "TakeScreenshot"}
-PREFERENCES = {"browser.aboutwelcome.enabled": False, "browser.download.folderList": 2,
-               "browser.helperApps.neverAsk.saveToDisk": "application/octet-stream",
-               "browser.shell.checkDefaultBrowser": False, "browser.startup.page": 0,
-               "datareporting.policy.dataSubmissionEnabled": False}
-ERRORS = ("const told = Services.console.getMessageArray().filter(one => one instanceof Ci.nsIScriptError"
-          " && /^(http|file|content)/.test(one.sourceName + one.category) && !(one.flags & 1)).map(one => one.message);"
-          " Services.console.reset(); return told")
+COMMANDS = {
+    "url": "Navigate",
+    "execute/sync": "ExecuteScript",
+    "actions": "PerformActions",
+    "element": "FindElement",
+    "screenshot": "TakeScreenshot",
+}
+PREFERENCES = {
+    "browser.aboutwelcome.enabled": False,
+    "browser.download.folderList": 2,
+    "browser.helperApps.neverAsk.saveToDisk": "application/octet-stream",
+    "browser.shell.checkDefaultBrowser": False,
+    "browser.startup.page": 0,
+    "datareporting.policy.dataSubmissionEnabled": False,
+}
+ERRORS = (
+    "const told = Services.console.getMessageArray().filter(one => one instanceof Ci.nsIScriptError"
+    " && /^(http|file|content)/.test(one.sourceName + one.category) && !(one.flags & 1)).map(one => one.message);"
+    " Services.console.reset(); return told"
+)
 
 
 class Firefox:
@@ -35,11 +46,22 @@ class Firefox:
             port = free.getsockname()[1]
         self.profile = tempfile.TemporaryDirectory(prefix="firefox-")
         wanted = {**PREFERENCES, "marionette.port": port}
-        Path(self.profile.name, "user.js").write_text("".join(f"user_pref({json.dumps(name)}, {json.dumps(value)});\n"
-                                                              for name, value in wanted.items()))
-        self.process = subprocess.Popen([str(FIREFOX), "--headless", "--marionette", "--remote-allow-system-access",
-                                         "--no-remote", "--profile", self.profile.name], stdout=subprocess.DEVNULL,
-                                        stderr=subprocess.DEVNULL)
+        Path(self.profile.name, "user.js").write_text(
+            "".join(f"user_pref({json.dumps(name)}, {json.dumps(value)});\n" for name, value in wanted.items())
+        )
+        self.process = subprocess.Popen(
+            [
+                str(FIREFOX),
+                "--headless",
+                "--marionette",
+                "--remote-allow-system-access",
+                "--no-remote",
+                "--profile",
+                self.profile.name,
+            ],
+            stdout=subprocess.DEVNULL,
+            stderr=subprocess.DEVNULL,
+        )
         self.numbers, self.socket = count(1), self.connected(port)
         try:
             self.told()
@@ -87,8 +109,11 @@ class Firefox:
 
     def size(self, width: int, height: int) -> None:
         """Makes the inside of the window so large."""
-        around = self.call("POST", "/session/execute/sync", {"script": "return [outerWidth - innerWidth, outerHeight -"
-                                                             " innerHeight]", "args": []})
+        around = self.call(
+            "POST",
+            "/session/execute/sync",
+            {"script": "return [outerWidth - innerWidth, outerHeight - innerHeight]", "args": []},
+        )
         self.ask("WebDriver:SetWindowRect", {"width": width + around[0], "height": height + around[1]})
 
     def within(self, script: str, *args: object) -> Any:
@@ -107,8 +132,9 @@ class Firefox:
         """What Chromium's developer tools are asked."""
         if name != "Page.setDownloadBehavior":
             raise unittest.SkipTest(f"Firefox has no {name}")
-        return self.within("Services.prefs.setStringPref('browser.download.dir', arguments[0])",
-                           parameters["downloadPath"])
+        return self.within(
+            "Services.prefs.setStringPref('browser.download.dir', arguments[0])", parameters["downloadPath"]
+        )
 
     def close(self) -> None:
         self.socket.close()

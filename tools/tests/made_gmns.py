@@ -9,7 +9,6 @@ netconvert tells where they lie.
 from __future__ import annotations
 
 import csv
-import shutil
 import subprocess
 import sys
 import tempfile
@@ -19,7 +18,6 @@ from pathlib import Path
 from typing import NamedTuple
 
 NET = Path("/usr/share/sumo/tools/game/bs3d/bs.net.xml")
-LACKING = "" if NET.exists() and shutil.which("netconvert") else f"netconvert or {NET} is not there"
 STREETS = ("primary", "secondary", "tertiary", "unclassified", "residential")
 TRIPS = 40
 Place = tuple[float, float]
@@ -40,15 +38,30 @@ class Street(NamedTuple):
 def read() -> tuple[dict[str, Place], list[Street]]:
     """The nodes and the streets, in degrees."""
     with tempfile.TemporaryDirectory() as folder:
-        subprocess.run(["netconvert", "-s", NET, "--plain-output-prefix", f"{folder}/bs", "--proj.plain-geo"],
-                       stdout=subprocess.DEVNULL, stderr=subprocess.DEVNULL, check=True)
-        nodes = {node.get("id", ""): (float(node.get("x", "")), float(node.get("y", "")))
-                 for node in ElementTree.parse(f"{folder}/bs.nod.xml").getroot().iter("node")}
+        subprocess.run(
+            ["netconvert", "-s", NET, "--plain-output-prefix", f"{folder}/bs", "--proj.plain-geo"],
+            stdout=subprocess.DEVNULL,
+            stderr=subprocess.DEVNULL,
+            check=True,
+        )
+        nodes = {
+            node.get("id", ""): (float(node.get("x", "")), float(node.get("y", "")))
+            for node in ElementTree.parse(f"{folder}/bs.nod.xml").getroot().iter("node")
+        }
         edges = list(ElementTree.parse(f"{folder}/bs.edg.xml").getroot().iter("edge"))
-    return nodes, [Street(edge.get("id", ""), edge.get("from", ""), edge.get("to", ""), line_of(edge, nodes),
-                          edge.get("type", "").removeprefix("highway."), edge.get("numLanes", "1"),
-                          3.6 * float(edge.get("speed", ""))) for edge in edges
-                   if edge.get("type", "").removeprefix("highway.") in STREETS]
+    return nodes, [
+        Street(
+            edge.get("id", ""),
+            edge.get("from", ""),
+            edge.get("to", ""),
+            line_of(edge, nodes),
+            edge.get("type", "").removeprefix("highway."),
+            edge.get("numLanes", "1"),
+            3.6 * float(edge.get("speed", "")),
+        )
+        for edge in edges
+        if edge.get("type", "").removeprefix("highway.") in STREETS
+    ]
 
 
 def line_of(edge: ElementTree.Element, nodes: dict[str, Place]) -> tuple[Place, ...]:
@@ -66,13 +79,33 @@ def write(folder: Path) -> None:
         about.setdefault(street.head, set()).add(street.tail)
     zones = {node: number for number, node in enumerate((node for node in about if len(about[node]) == 1), 1)}
     folder.mkdir(exist_ok=True)
-    table(folder / "node.csv", "node_id x_coord y_coord zone_id",
-          ((node, *nodes[node], zones.get(node, "")) for node in about))
-    table(folder / "link.csv", "link_id from_node_id to_node_id dir_flag lanes free_speed link_type_name geometry",
-          ((one.name, one.tail, one.head, 1, one.lanes, round(one.kmh), one.kind,
-            f"LINESTRING ({', '.join(f'{x} {y}' for x, y in one.line)})") for one in streets))
-    table(folder / "demand.csv", "o_zone_id d_zone_id volume",
-          ((one, other, TRIPS) for one in zones.values() for other in zones.values() if one != other))
+    table(
+        folder / "node.csv",
+        "node_id x_coord y_coord zone_id",
+        ((node, *nodes[node], zones.get(node, "")) for node in about),
+    )
+    table(
+        folder / "link.csv",
+        "link_id from_node_id to_node_id dir_flag lanes free_speed link_type_name geometry",
+        (
+            (
+                one.name,
+                one.tail,
+                one.head,
+                1,
+                one.lanes,
+                round(one.kmh),
+                one.kind,
+                f"LINESTRING ({', '.join(f'{x} {y}' for x, y in one.line)})",
+            )
+            for one in streets
+        ),
+    )
+    table(
+        folder / "demand.csv",
+        "o_zone_id d_zone_id volume",
+        ((one, other, TRIPS) for one in zones.values() for other in zones.values() if one != other),
+    )
 
 
 def table(path: Path, names: str, rows: Iterable[tuple[object, ...]]) -> None:

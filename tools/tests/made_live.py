@@ -6,18 +6,10 @@ import unittest
 from collections.abc import Callable
 from typing import Any
 
-from support import BUILT, EXAMPLES, FolderTest
+from support import BUILT, EXAMPLES, FolderTest, needs
 from ltm_tools.case import Case, Limit
-from ltm_tools.errors import Fault
-from ltm_tools.libraries import missing
-from ltm_tools.show.page import find_d3
 
-try:
-    find_d3()
-    LACKING = ", ".join(missing(["tornado"]))
-except Fault as fault:
-    LACKING = str(fault)
-needs_live = unittest.skipIf(LACKING, f"a live page needs more than is there: {LACKING}")
+needs_live = needs("python3-tornado", "node-d3")
 
 
 class Client:
@@ -122,13 +114,16 @@ class LiveTest(unittest.IsolatedAsyncioTestCase, FolderTest):
         from tornado.httpclient import HTTPRequest
         from tornado.websocket import websocket_connect
 
-        return await websocket_connect(HTTPRequest(self.base.replace("http", "ws") + "ws",
-                                                   headers={"Origin": self.origin, **headers}))
+        return await websocket_connect(
+            HTTPRequest(self.base.replace("http", "ws") + "ws", headers={"Origin": self.origin, **headers})
+        )
 
-    async def client(self, token: object = None) -> Client:
-        """A browser that has told its token; the right one waits until it may change something."""
+    async def client(self, token: object = None, window: str = "") -> Client:
+        """A browser that has told its token, and which window it is; the right one waits until it may change
+        something."""
         client = Client(await self.socket(), self.desk)
-        await client.send({"token": self.token if token is None else token})
+        told = {"token": self.token if token is None else token}
+        await client.send({**told, "window": window} if window else told)
         if token is None:
             await client.until(lambda: client.ready and client.costs)
         return client
@@ -138,8 +133,9 @@ class LiveTest(unittest.IsolatedAsyncioTestCase, FolderTest):
         from tornado.httpclient import AsyncHTTPClient
 
         body = {"body": b""} if method == "POST" else {}
-        return await AsyncHTTPClient().fetch(self.base + path, method=method, headers=headers, raise_error=False,
-                                             **body)  # type: ignore[arg-type]
+        return await AsyncHTTPClient().fetch(
+            self.base + path, method=method, headers=headers, raise_error=False, **body
+        )  # type: ignore[arg-type]
 
     async def kept(self, name: str) -> bytes:
         """What is kept of the scenario under a name."""

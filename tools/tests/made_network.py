@@ -28,5 +28,12 @@ def made_network(seed: int) -> Network:
 
 def made_road(chance: random.Random, name: str, tail: str, head: str) -> Road:
     kmh, jam, capacity = chance.choice(KINDS)
-    return road_of(name, tail, head, metres=Fraction(chance.randint(*chance.choice(LENGTHS))), kmh=Fraction(kmh),
-                   jam=Fraction(jam), capacity=Fraction(capacity))
+    return road_of(
+        name,
+        tail,
+        head,
+        metres=Fraction(chance.randint(*chance.choice(LENGTHS))),
+        kmh=Fraction(kmh),
+        jam=Fraction(jam),
+        capacity=Fraction(capacity),
+    )

@@ -8,8 +8,8 @@ from collections.abc import Sequence
 from support import FolderTest
 
 from ltm_tools import edits
-from ltm_tools.case.edits import Edit
 from ltm_tools.formats import vehicles_text
+from ltm_tools.scenario.edits import Edit
 
 SESSION = """
 import json, os, time, zlib
@@ -72,13 +72,23 @@ REFUSED = "refused edit 1 UnknownName: links.csv has no link z"
 class SweepTest(FolderTest):
     """A test with the smallest case, the made session, and files of scenarios."""
 
-    def session(self, pause: float = 0.0, refuses_links: bool = False, more: int = 0, status: int = 0,
-                most_lines: int = 100_000) -> str:
+    def session(
+        self, pause: float = 0.0, refuses_links: bool = False, more: int = 0, status: int = 0, most_lines: int = 100_000
+    ) -> str:
         """The made session as a program; it takes so long for each edit, tells so many units more, takes so many lines,
         and ends with this status."""
-        return str(self.program(SESSION.format(log=str(self.folder / "log"), pause=pause, refuses_links=refuses_links,
-                                               more=more,
-                                               status=status, most_lines=most_lines)))
+        return str(
+            self.program(
+                SESSION.format(
+                    log=str(self.folder / "log"),
+                    pause=pause,
+                    refuses_links=refuses_links,
+                    more=more,
+                    status=status,
+                    most_lines=most_lines,
+                )
+            )
+        )
 
     def log(self) -> list[str]:
         """Which sessions were opened and ended."""
@@ -91,8 +101,11 @@ class SweepTest(FolderTest):
     def scenarios(self, *batches: "Sequence[Sequence[Edit]]") -> str:
         """A file of scenarios with these batches."""
         path = self.folder / f"scenarios{len(list(self.folder.glob('*.jsonl')))}.jsonl"
-        path.write_text("".join(json.dumps({"name": f"s, {number}", "batches": one}) + "\n"
-                                for number, one in enumerate(batches, 1)))
+        path.write_text(
+            "".join(
+                json.dumps({"name": f"s, {number}", "batches": one}) + "\n" for number, one in enumerate(batches, 1)
+            )
+        )
         return str(path)
 
     def many(self, count: int) -> "tuple[str, list[list[str]]]":
@@ -100,8 +113,10 @@ class SweepTest(FolderTest):
         to them."""
         all_batches, rows = [], []
         for number in range(1, count + 1):
-            first, second = (edits.limit("a", number % 4, 4, number),
-                             edits.exit_limit("z" if number % 7 == 0 else "a", 0, 1 + number % 4, 2 * number))
+            first, second = (
+                edits.limit("a", number % 4, 4, number),
+                edits.exit_limit("z" if number % 7 == 0 else "a", 0, 1 + number % 4, 2 * number),
+            )
             all_batches.append([[first], [second]])
             refused = [str(number), f"s, {number}", f"batch 2 {REFUSED}", "", "", "", "", ""]
             rows.append(row_of(number, f"s, {number}", (first, second)) if number % 7 else refused)

@@ -31,11 +31,65 @@ MOST_SECONDS = 10
 TOLD_EVERY = 1000
 TOKEN = re.compile(rb"[^,;\"<>=\s/:{}\[\]()]+")
 NUMBER = re.compile(rb"-?[0-9]+(?:\.[0-9]+)?")
-NUMBERS = (b"0", b"-1", b"1", b"0.0005", b"1e15", b"1000000000000001", b"4294967295", b"4294967296", b"1e400",
-           b"1e-400", b"1e99999999", b"-0", b"9" * 400, b"1000000", b"1000001", b"60000", b"nan", b"inf", b"0x10",
-           b"1_000", b"7:00", b"99:59", b"1/0", b"1/3", b".5", b"5.", b"1e308", b"-1e308", b"32000", b"16000", b"257")
-TEXTS = (b"", b"a", b"b", b"n1", b"n3", b"</script>", b'"', b"a b", b"\xe9", "Straße".encode(), "\u2028".encode(),
-         "\u0663".encode(), b"\0", b"\r", b"\n", b",", b";", b"a" * 40, b"-a", b"_a", b"$a$", b"../x", b"&amp;", b"]]>")
+NUMBERS = (
+    b"0",
+    b"-1",
+    b"1",
+    b"0.0005",
+    b"1e15",
+    b"1000000000000001",
+    b"4294967295",
+    b"4294967296",
+    b"1e400",
+    b"1e-400",
+    b"1e99999999",
+    b"-0",
+    b"9" * 400,
+    b"1000000",
+    b"1000001",
+    b"60000",
+    b"nan",
+    b"inf",
+    b"0x10",
+    b"1_000",
+    b"7:00",
+    b"99:59",
+    b"1/0",
+    b"1/3",
+    b".5",
+    b"5.",
+    b"1e308",
+    b"-1e308",
+    b"32000",
+    b"16000",
+    b"257",
+)
+TEXTS = (
+    b"",
+    b"a",
+    b"b",
+    b"n1",
+    b"n3",
+    b"</script>",
+    b'"',
+    b"a b",
+    b"\xe9",
+    "Straße".encode(),
+    "\u2028".encode(),
+    "\u0663".encode(),
+    b"\0",
+    b"\r",
+    b"\n",
+    b",",
+    b";",
+    b"a" * 40,
+    b"-a",
+    b"_a",
+    b"$a$",
+    b"../x",
+    b"&amp;",
+    b"]]>",
+)
 
 
 class TooLong(BaseException):
@@ -56,7 +110,7 @@ def changed(data: bytes, pick: random.Random) -> bytes:
     kind = pick.randrange(7)
     if kind == 0:  # a byte
         place = pick.randrange(len(data) + 1)
-        return data[:place] + bytes([pick.randrange(256)]) + data[place + pick.randrange(2):]
+        return data[:place] + bytes([pick.randrange(256)]) + data[place + pick.randrange(2) :]
     if kind == 1:  # a part is gone, or stands twice
         begin, end = sorted(pick.randrange(len(data) + 1) for _ in range(2))
         return data[:begin] + data[end:] if pick.randrange(2) else data[:end] + data[begin:]
@@ -71,7 +125,7 @@ def changed(data: bytes, pick: random.Random) -> bytes:
         return data + b"\n"
     place, other = pick.choice(found), pick.choice(found)[0]
     new = other if pick.randrange(3) == 0 else pick.choice(NUMBERS if kind in (3, 4) else (*TEXTS, *NUMBERS))
-    return data[:place.start()] + new + data[place.end():]
+    return data[: place.start()] + new + data[place.end() :]
 
 
 def mutated(name: str, data: bytes, pick: random.Random) -> bytes:
@@ -90,7 +144,8 @@ def state(folder: Path) -> dict[str, tuple[int, int]]:
         for name in (*folders, *files):
             told = os.lstat(os.path.join(place, name))
             found[os.path.relpath(os.path.join(place, name), folder)] = (
-                (-1, 0) if name in folders else (told.st_size, told.st_mtime_ns))
+                (-1, 0) if name in folders else (told.st_size, told.st_mtime_ns)
+            )
     return found
 
 
@@ -143,14 +198,20 @@ class Mutations:
     def wrong(self, run: Run, status: int, err: str, before: dict[str, tuple[int, int]]) -> str:
         """What is wrong with how a command ended."""
         after = state(self.folder)
-        odd = sorted(name for name in {*before, *after} if before.get(name) != after.get(name)
-                     and not (status == 0 and (name in run.writes or name.split(os.sep)[0] in run.writes)))
+        odd = sorted(
+            name
+            for name in {*before, *after}
+            if before.get(name) != after.get(name)
+            and not (status == 0 and (name in run.writes or name.split(os.sep)[0] in run.writes))
+        )
         if odd:
             return f"status {status}, and it leaves {' '.join(odd)}"
         lines = err.splitlines()
         if status not in (0, 1) or status == 1 and not lines or max(map(len, lines), default=0) > 2000:
             return f"status {status}, and {len(lines)} lines on the standard error: {err[:500]}"
-        if len(lines) > 1 and not lines[0].startswith("cannot be carried: "):
+        if (
+            status and len(lines) > 1 and not lines[0].startswith("cannot be carried: ")
+        ):  # what goes well may have notes
             return f"{len(lines)} lines: {err[:500]}"
         return ""
 
@@ -170,6 +231,7 @@ class Mutations:
 
 def mutations(folder: Path, seed: int, first: int, count: int) -> Iterator[Bad]:
     """The runs of these numbers that did not end as they should."""
+
     def end(*_: object) -> None:
         raise TooLong
 
@@ -181,8 +243,9 @@ def mutations(folder: Path, seed: int, first: int, count: int) -> Iterator[Bad]:
             if bad is not None:
                 yield bad
             if (number + 1 - first) % TOLD_EVERY == 0:
-                print(f"{number + 1 - first} runs, of which by status {dict(made.statuses)}", file=sys.stderr,
-                      flush=True)
+                print(
+                    f"{number + 1 - first} runs, of which by status {dict(made.statuses)}", file=sys.stderr, flush=True
+                )
     finally:
         signal.signal(signal.SIGVTALRM, was)
 

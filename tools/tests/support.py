@@ -3,19 +3,67 @@ import hashlib
 import importlib.machinery
 import importlib.util
 import os
+import shutil
 import stat
-import subprocess
 import sys
 import tempfile
 import unittest
+from collections.abc import Callable
 from pathlib import Path
 from typing import Any
+
+from ltm_tools import libraries
 
 TOOLS = Path(__file__).resolve().parents[1]
 CLONE = TOOLS.parent
 EXAMPLES = CLONE / "examples"
 BUILT = Path(os.environ.get("LTM") or CLONE / "crates" / "ltm" / "out" / "ltm").absolute()
 needs_program = unittest.skipUnless(os.access(BUILT, os.X_OK), "the program ltm is not built")
+
+# how Debian's packages are seen to be there: by the words that they have, a file or a module; libraries by the library
+WORDS = {
+    "black": ("black",),
+    "chromium": ("chromium",),
+    "chromium-driver": ("chromedriver",),
+    "eslint": ("eslint",),
+    "flake8": ("flake8",),
+    "mypy": ("mypy",),
+    "sumo": ("sumo", "netgenerate", "netconvert", "duarouter"),
+}
+FILES = {"sumo-tools": "/usr/share/sumo/tools/game/bs3d/bs.net.xml"}
+MODULES = {"python3-pip": "pip"}
+
+
+def is_there(package: str) -> bool:
+    """Whether what a test uses of one of Debian's packages is there, wherever it comes from."""
+    if package in FILES:
+        return os.path.exists(FILES[package])
+    if package in MODULES:
+        return importlib.util.find_spec(MODULES[package]) is not None
+    if package in WORDS:
+        return all(shutil.which(word) is not None for word in WORDS[package])
+    return not libraries.missing([name for name, other in libraries.PACKAGES.items() if other == package])
+
+
+def lack_of(*packages: str) -> str:
+    """Which of these packages are not there, as the reason of a skip; nothing where all are. `tools/test --without`
+    knows packages by these names."""
+    absent = [package for package in packages if not is_there(package)]
+    return f"not installed: {', '.join(absent)}" if absent else ""
+
+
+def needs(*packages: str) -> Callable[[Any], Any]:
+    """Has a test skipped where one of these packages is not there."""
+    lack = lack_of(*packages)
+    return unittest.skipIf(lack, lack)
+
+
+needs_d3 = needs("node-d3")
+needs_dask = needs("python3-distributed")
+needs_matplotlib = needs("python3-matplotlib")
+needs_numpy = needs("python3-numpy")
+needs_pandas = needs("python3-pandas")
+needs_pip = needs("python3-pip")
 
 # the smallest case, as examples/one_road has it
 ROAD = {
@@ -47,37 +95,6 @@ def script(name: str) -> Any:
     finally:
         sys.dont_write_bytecode = was
     return module
-
-
-def takes_columns(columns: str = "limits,cells", values: str = "0,102") -> bool:
-    """Whether the program is there and takes these columns of `setup.csv`."""
-    if not os.access(BUILT, os.X_OK):
-        return False
-    with tempfile.TemporaryDirectory() as folder:
-        for name, text in {**ROAD, "setup": f"step_ms,slots,origin_capacity,{columns}\n1000,4,1,{values}\n"}.items():
-            Path(folder, f"{name}.csv").write_text(text)
-        return subprocess.run([BUILT, "load"], cwd=folder, capture_output=True).returncode == 0
-
-
-def takes_splits() -> bool:
-    """Whether the program is there, and its sessions answer `state` and take the edit `splits`."""
-    if not os.access(BUILT, os.X_OK):
-        return False
-    asked = ('{"do": "state", "slot": 0}\n'
-             '{"do": "edit", "edits": [{"kind": "splits", "node": "n1", "destination": "n2", "rows": [[0, {"a":'
-             ' 1}]]}]}\n')
-    with tempfile.TemporaryDirectory() as folder:
-        for name, text in ROAD.items():
-            Path(folder, f"{name}.csv").write_text(text)
-        return b"refused" not in subprocess.run([BUILT, "session", "0"], cwd=folder, input=asked.encode(),
-                                                capture_output=True).stdout
-
-
-needs_splits = unittest.skipUnless(takes_splits(),
-                                   "no program is built whose sessions answer `state` and take `splits`")
-needs_columns = unittest.skipUnless(takes_columns(), "no program is built that takes the columns limits and cells")
-needs_sizes = unittest.skipUnless(takes_columns("rows,links,destinations,moves", "1,1,1,1"),
-                                  "no program is built that takes the columns rows to moves")
 
 
 class FolderTest(unittest.TestCase):

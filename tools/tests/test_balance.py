@@ -2,26 +2,26 @@
 import unittest
 from fractions import Fraction
 
-from test_fit import network, road
+from support_roads import network, road
 
 from ltm_tools.network.balance import MOST_SHARE, Used, balance
-from ltm_tools.network.fit import Fit
+from ltm_tools.network.fit import FittedNetwork
 
 
-def fitted(*metres: int, step: int = 5000) -> Fit:
+def fitted(*metres: int, step: int = 5000) -> FittedNetwork:
     """A row of roads r0, r1, .. in which trips end at each node, so that nothing is merged, fitted to a step."""
     roads = [road(f"r{number}", f"n{number}", f"n{number + 1}", length) for number, length in enumerate(metres)]
-    fit = Fit(network(*roads, ends=" ".join(f"n{number}" for number in range(len(metres) + 1))), step)
+    fit = FittedNetwork(network(*roads, ends=" ".join(f"n{number}" for number in range(len(metres) + 1))), step)
     fit.run()
     return fit
 
 
-def used(fit: Fit, names: str, units: int = 1000) -> Used:
+def used(fit: FittedNetwork, names: str, units: int = 1000) -> Used:
     """A route, with the time that it took before the fit."""
     return Used(tuple(names.split()), tuple(fit.raw.roads[name].time for name in names.split()), units)
 
 
-def off(fit: Fit, route: Used) -> Fraction:
+def off(fit: FittedNetwork, route: Used) -> Fraction:
     """By how many ms a route takes longer than it took."""
     return sum((fit.network.roads[name].time for name in route.roads), Fraction(0)) - route.time
 

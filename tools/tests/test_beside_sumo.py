@@ -8,16 +8,19 @@ from fractions import Fraction
 from pathlib import Path
 from typing import Any
 
-from support import BUILT, EXAMPLES, FolderTest, needs_program
+from support import BUILT, EXAMPLES, FolderTest, needs, needs_program
 
 from ltm_tools.case import Case, Demand, Link, Setup
+from ltm_tools.case.source import Source, SourceLink
 from ltm_tools.loading.delay import MILLIONTHS, Delay, Report, Wait
-from ltm_tools.network.source import Source, SourceLink
 from ltm_tools.sumo.net import read_net
 
 
 FROM_SUMO = EXAMPLES / "from_sumo"
 IMPORT = EXAMPLES.parent / "tools" / "ltm-tools"
+BEFORE = ("--saturation", "road", "--entries", "none", "--carry", "0", "--yielding", "none")
+"""Stop lines let through what their roads carry, nobody has an entry, what is rounded off is lost, and nobody yields
+without a light: as in the town's report of another engine."""
 TOWN = ("town.net.xml", "town.rou.xml", "town.add.xml")
 BOLOGNA = "/usr/share/sumo/tools/sumolib/scenario/scenarios/RealWorld/joined/joined"
 
@@ -35,25 +38,35 @@ def example_script() -> Any:
 compare = example_script()
 
 # two edges of 200 m at 10 m/s, 20 s each
-NET = "".join(f'<edge id="{name}" from="{tail}" to="{head}"><lane id="{name}_0" index="0" speed="10"'
-              f' length="200"/></edge>'
-              for name, tail, head in (("in", "A", "B"), ("on", "B", "C")))
-TRIPS = ('<tripinfos><tripinfo id="1" depart="900.00" departDelay="0.00" duration="50.00" arrival="950.00"/>'
-         '<tripinfo id="2" depart="910.00" departDelay="4.00" duration="60.00" arrival="970.00"/></tripinfos>')
-DATA = ('<meandata><interval begin="0" end="970" id="whole"><edge id="in" sampledSeconds="70.00" left="2" arrived="0"/>'
-        '<edge id="on" sampledSeconds="40.00" left="0" arrived="2"/><edge id=":B_0" sampledSeconds="9" left="2"'
-        ' arrived="0"/></interval></meandata>')
+NET = "".join(
+    f'<edge id="{name}" from="{tail}" to="{head}"><lane id="{name}_0" index="0" speed="10" length="200"/></edge>'
+    for name, tail, head in (("in", "A", "B"), ("on", "B", "C"))
+)
+TRIPS = (
+    '<tripinfos><tripinfo id="1" depart="900.00" departDelay="0.00" duration="50.00" arrival="950.00"/>'
+    '<tripinfo id="2" depart="910.00" departDelay="4.00" duration="60.00" arrival="970.00"/></tripinfos>'
+)
+DATA = (
+    '<meandata><interval begin="0" end="970" id="whole"><edge id="in" sampledSeconds="70.00" left="2" arrived="0"/>'
+    '<edge id="on" sampledSeconds="40.00" left="0" arrived="2"/><edge id=":B_0" sampledSeconds="9" left="2"'
+    ' arrived="0"/></interval></meandata>'
+)
 WHOLE = '<statistics><vehicles loaded="2"/><teleports total="3" jam="3"/></statistics>'
 
 
 class Read(FolderTest):
     def setUp(self) -> None:
         super().setUp()
-        for name, text in (("n.net.xml", f"<net>{NET}</net>"), ("trips.xml", TRIPS), ("edges.xml", DATA),
-                           ("whole.xml", WHOLE)):
+        for name, text in (
+            ("n.net.xml", f"<net>{NET}</net>"),
+            ("trips.xml", TRIPS),
+            ("edges.xml", DATA),
+            ("whole.xml", WHOLE),
+        ):
             (self.folder / name).write_text(text)
-        self.net = read_net(self.folder / "n.net.xml", vehicle_class="passenger", headway=Fraction(113, 100),
-                            spacing=Fraction(15, 2))
+        self.net = read_net(
+            self.folder / "n.net.xml", vehicle_class="passenger", headway=Fraction(113, 100), spacing=Fraction(15, 2)
+        )
         self.run_of = compare.read_run(self.folder, self.net)
 
     def test_what_sumo_wrote(self) -> None:
@@ -63,10 +76,16 @@ class Read(FolderTest):
         self.assertEqual((run.arrivals, run.first_ms, run.moved), ([950_000, 970_000], 900_000, 3))
 
     def test_links_by_the_edges_that_they_are_made_of(self) -> None:
-        source = Source({"in": SourceLink("A", "B", "x"), "on": SourceLink("B", "C", "y"),
-                         "on_exit": SourceLink("B", "C", "z")}, {})
-        report = Report({name: Delay(0, seconds * MILLIONTHS, 0, 0)
-                         for name, seconds in (("x", 5), ("y", 6), ("z", 7), ("made", 8))}, {})
+        source = Source(
+            {"in": SourceLink("A", "B", "x"), "on": SourceLink("B", "C", "y"), "on_exit": SourceLink("B", "C", "z")}, {}
+        )
+        report = Report(
+            {
+                name: Delay(0, seconds * MILLIONTHS, 0, 0)
+                for name, seconds in (("x", 5), ("y", 6), ("z", 7), ("made", 8))
+            },
+            {},
+        )
         ours, theirs = compare.by_label(report, self.run_of, source, self.net)
         self.assertEqual((ours, theirs), ({"in": 5, "on": 13, "made": 8}, {"in": 30, "on": 0}))
         self.assertEqual(compare.likeness({"a": 1, "b": 2, "c": 3}, {"a": 2, "b": 4, "c": 6}), 1)
@@ -75,8 +94,9 @@ class Read(FolderTest):
         self.assertEqual(compare.by_label(report, self.run_of, source, self.net)[0], {"in": 12, "on": 6, "made": 8})
         # that turn has become one with `on`: both edges have all of it
         source = Source({"in": SourceLink("A", "B", "x", ("y",)), "on": SourceLink("B", "C", "y")}, {})
-        self.assertEqual(compare.by_label(report, self.run_of, source, self.net),
-                         ({"in on": 11, "z": 7, "made": 8}, {"in on": 30}))
+        self.assertEqual(
+            compare.by_label(report, self.run_of, source, self.net), ({"in on": 11, "z": 7, "made": 8}, {"in on": 30})
+        )
         source = Source({"in": SourceLink("A", "B", "x"), "on": SourceLink("B", "C", "x")}, {})
         self.assertEqual(compare.by_label(report, self.run_of, source, self.net)[1], {"in on": 30})
 
@@ -86,6 +106,19 @@ class Read(FolderTest):
         # of 114 s SUMO has 30 beyond the limit on links and 4 at the start
         self.assertEqual([line.split()[-4:] for line in lines[1:2]], [["0.03", "0.03", "-21.1", "%"]])
         self.assertEqual([line.split()[-2:] for line in lines[2:]], [["-10.0", "%"], ["-40.0", "%"], ["-100.0", "%"]])
+
+    def test_a_word_for_sumo_that_begins_with_a_sign(self) -> None:
+        words = ["case", "net", "--sumo", "--meso-junction-control", "cars"]
+        self.assertEqual(compare.one_word(words), ["case", "net", "--sumo=--meso-junction-control", "cars"])
+        self.assertEqual(compare.one_word(["case", "--sumo"]), ["case", "--sumo"])
+
+    def test_types_of_vehicles_are_no_programs(self) -> None:
+        """By which SUMO's mesoscopic run minds signals."""
+        (self.folder / "types.xml").write_text('<additional><vType id="car"/></additional>')
+        (self.folder / "plans.xml").write_text('<additional><tlLogic id="t"/></additional>')
+        self.assertEqual(
+            [compare.has_programs(str(self.folder / name)) for name in ("types.xml", "plans.xml")], [False, True]
+        )
 
     def test_arrivals_at_whole_minutes(self) -> None:
         case = Case(Setup(30_000, 4, 1), [Link("in", "A", "B", 200, 36, 18, 150)], [Demand("A", "B", 0, 1, 2000)])
@@ -106,7 +139,7 @@ def release() -> str:
 
 
 @needs_program
-@unittest.skipUnless(release().endswith(" 1.15.0"), "SUMO 1.15.0, which made the town of town.out, is not there")
+@unittest.skipUnless(release().endswith(" 1.15.0"), "not installed: sumo 1.15.0, which made the town of town.out")
 class Beside(FolderTest):
     def run_all(self, *lines: list[str | Path]) -> str:
         """What the last of some commands writes, all of which run in the folder of the test and end well."""
@@ -117,8 +150,10 @@ class Beside(FolderTest):
 
     def make(self, *words: str) -> None:
         """The town, and the case that is made of it with these words."""
-        self.run_all([FROM_SUMO / "make.py", "town", "."],
-                     [IMPORT, "from-sumo", *TOWN, "case", "--fit", "5s", "--horizon", "75", *words])
+        self.run_all(
+            [FROM_SUMO / "make.py", "town", "."],
+            [IMPORT, "from-sumo", *TOWN, "case", "--fit", "5s", "--horizon", "75", *BEFORE, *words],
+        )
 
     def compared(self, *words: str | Path) -> tuple[float, float, float]:
         """The vehicle hours of the case and of SUMO, and the correlation of delay by edge, as compare.py tells them."""
@@ -141,11 +176,13 @@ class Beside(FolderTest):
         self.assertGreater(likeness, 0.985)
         self.assertLess(abs(ours / theirs - 1), 0.03)
 
-    @unittest.skipUnless(Path(f"{BOLOGNA}.rou.xml").exists(), "Debian's sumo-tools, which has Bologna, is not there")
+    @needs("sumo-tools")
     def test_a_real_network_is_near_to_sumo_without_its_drop(self) -> None:
-        net, types, routes, plans = (f"{BOLOGNA}{end}.xml" for end in ("_buslanes.net", "_vtypes.add", ".rou",
-                                                                       "_tls.add"))
-        self.run_all([IMPORT, "from-sumo", net, types, routes, plans, "case", "--fit", "2s", "--horizon", "150"])
+        net, types, routes, plans = (
+            f"{BOLOGNA}{end}.xml" for end in ("_buslanes.net", "_vtypes.add", ".rou", "_tls.add")
+        )
+        words = ["--fit", "2s", "--horizon", "150", "--lanes", "full", "--allow-losses", *BEFORE]
+        self.run_all([IMPORT, "from-sumo", net, types, routes, plans, "case", *words])
         self.assertGreater(self.compared(net, routes, types, plans, "--sumo", " ".join(compare.NO_DROP))[2], 0.85)
 
 

@@ -25,6 +25,18 @@ class Numbers(unittest.TestCase):
         narrow = Link("a", "n1", "n2", 1000, 1, 1, 1)  # half a vehicle an hour: a thousandth in 7200 ms
         self.assertEqual((narrow.least_step_ms, narrow.capacity(7199), narrow.capacity(7200)), (7200, 0, 1))
 
+    def test_what_is_left_over_is_carried(self) -> None:
+        # 300 * 120 * 20 * 10,000 / (140 * 3600) = 14,285 5/7 thousandths a slot, 100,000 in seven
+        link = Link("a", "n1", "n2", 500, 120, 20, 300)
+        self.assertEqual(
+            [link.capacity_at(10_000, slot) for slot in range(8)],
+            [14_285, 14_286, 14_286, 14_285, 14_286, 14_286, 14_286, 14_285],
+        )
+        self.assertEqual([link.most_capacity(10_000, carry) for carry in (False, True)], [14_285, 14_286])
+        # of 32,000.69 thousandths in a second 32,000 pass within it, and 32,001 with what is carried
+        wide = Link("a", "n1", "n2", 1000, 29, 29, 7945)
+        self.assertEqual((wide.passing_step(False), wide.passing_step(True)), (1000, 999))
+
     def test_cells(self) -> None:
         links = [Link(f"l{k}", f"n{k}", f"n{k + 1}", 100, 36, 18, 150) for k in range(1000)]
         case = Case(Setup(1000, 2000, 1000), links, [Demand("n0", "n1000", 0, 1, 1000)], [])
@@ -36,10 +48,13 @@ class Numbers(unittest.TestCase):
 class Names(unittest.TestCase):
     def test_what_the_package_names(self) -> None:
         from ltm_tools import Curves, Fault, Refused, Session, errors
-        from ltm_tools.loading import curves, session
+        from ltm_tools.loading import curves
+        from ltm_tools.scenario import session
 
-        self.assertEqual((ltm_tools.Case, Curves, Fault, Refused, Session),
-                         (Case, curves.Curves, errors.Fault, session.Refused, session.Session))
+        self.assertEqual(
+            (ltm_tools.Case, Curves, Fault, Refused, Session),
+            (Case, curves.Curves, errors.Fault, session.Refused, session.Session),
+        )
         self.assertFalse(hasattr(ltm_tools, "Nothing"))
 
 
@@ -62,14 +77,17 @@ class Files(FolderTest):
         case = Case.read(self.case(splits=None))
         self.assertIsNone(case.splits)
         case.write(self.folder / "written")
-        self.assertEqual(sorted(path.name for path in (self.folder / "written").iterdir()),
-                         ["demand.csv", "links.csv", "setup.csv"])
+        self.assertEqual(
+            sorted(path.name for path in (self.folder / "written").iterdir()), ["demand.csv", "links.csv", "setup.csv"]
+        )
 
     def test_limits_and_cells(self) -> None:
         case = Case(Setup(1000, 4, 1000, cells=2000), Case.read(self.case()).links, limits=[Limit("a", 0, 1, 50)])
         case.write(self.folder / "written")
-        self.assertEqual((self.folder / "written" / "setup.csv").read_text(),
-                         "step_ms,slots,origin_capacity,limits,cells\n1000,4,1,1,2000\n")
+        self.assertEqual(
+            (self.folder / "written" / "setup.csv").read_text(),
+            "step_ms,slots,origin_capacity,limits,cells\n1000,4,1,1,2000\n",
+        )
         self.assertEqual(Case.read(self.folder / "written").limits, [Limit("a", 0, 1, 50)])
 
     def test_a_copy_has_rows_of_its_own(self) -> None:

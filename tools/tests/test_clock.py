@@ -8,11 +8,10 @@ import unittest
 from pathlib import Path
 
 import commands
-from support import FolderTest
-from test_delay import DATA
-from test_from_gmns import PLAIN, GmnsTest
-from test_from_sumo import SumoTest
-from ltm_tools import libraries
+from support import FolderTest, needs_matplotlib
+from support_loadings import DATA
+from support_gmns import PLAIN, GmnsTest
+from support_sumo import SumoTest
 from ltm_tools.case.clock import read_clock, start_of
 from ltm_tools.errors import Fault
 from ltm_tools.formats import HOUR_MS
@@ -27,8 +26,9 @@ class Reading(FolderTest):
 
     def test_clocks(self) -> None:
         self.assertIsNone(read_clock(self.folder))
-        self.assertEqual([read_clock(self.told(text)) for text in ("7:00\n", "07:00:00", "0:00:00.5\r\n")],
-                         [SEVEN, SEVEN, 500])
+        self.assertEqual(
+            [read_clock(self.told(text)) for text in ("7:00\n", "07:00:00", "0:00:00.5\r\n")], [SEVEN, SEVEN, 500]
+        )
 
     def test_what_is_none(self) -> None:
         for text in ("", "seven\n", "7:00\n8:00\n", "7:00\n" * 1000):
@@ -41,8 +41,10 @@ class Reading(FolderTest):
             if text is not None:
                 (self.folder / name / "clock.txt").write_text(text)
         one, other, same, none = (self.folder / name for name in ("one", "other", "same", "none"))
-        self.assertEqual([start_of(None, one, same), start_of(None, none, one), start_of(None, none),
-                          start_of(5, one, other)], [SEVEN, SEVEN, 0, 5])
+        self.assertEqual(
+            [start_of(None, one, same), start_of(None, none, one), start_of(None, none), start_of(5, one, other)],
+            [SEVEN, SEVEN, 0, 5],
+        )
         with self.assertRaisesRegex(Fault, "one begins at 7:00 and .*other begins at 8:00, .* say --start"):
             start_of(None, one, other)
 
@@ -67,12 +69,14 @@ class Tools(FolderTest):
         return int(next(iter(csv.DictReader(io.StringIO(text))))[field])
 
     def test_every_tool_begins_there(self) -> None:
-        for words, field in ((("times", "CASE", "a", "b"), "departs_ms"),
-                             (("queues", "CASE", "--sort", "from"), "from_ms"),
-                             (("compare", "CASE", "CASE", "--other-curves", "CASE/curves.csv", "--table", "arrivals"),
-                              "ms")):
-            found = [self.first(self.run_on(*words, "--format", "csv", *more), field)
-                     for more in ((), ("--start", "0:00"))]
+        for words, field in (
+            (("times", "CASE", "a", "b"), "departs_ms"),
+            (("queues", "CASE", "--sort", "from"), "from_ms"),
+            (("compare", "CASE", "CASE", "--other-curves", "CASE/curves.csv", "--table", "arrivals"), "ms"),
+        ):
+            found = [
+                self.first(self.run_on(*words, "--format", "csv", *more), field) for more in ((), ("--start", "0:00"))
+            ]
             self.assertEqual(found[0] - found[1], SEVEN, words)
         self.run_on("geojson", "CASE", "--at", "7:00:08", "-o", "CASE/links.json")
         first = json.loads((self.made / "links.json").read_text())["features"][0]
@@ -83,7 +87,7 @@ class Tools(FolderTest):
         self.run_on("page", "CASE", "-o", "CASE/page.html", "--d3", str(self.folder / "d3.min.js"))
         self.assertIn(f'"start":{SEVEN},', (self.made / "page.html").read_text())
 
-    @unittest.skipIf(libraries.missing(["matplotlib"]), "matplotlib is not there")
+    @needs_matplotlib
     def test_pictures_begin_there(self) -> None:
         for words in (("map", "CASE", "--at", "7:00:08"), ("curves", "CASE", "a", "b"), ("full", "CASE", "a", "b")):
             self.run_on("draw", *words, "-o", "CASE/drawn.svg")
@@ -122,12 +126,15 @@ class Gmns(GmnsTest):
         self.assertIn("slot 0 begins at 7:00\n", commands.run("splits", str(case), "--routes", str(routes))[1])
         greens.write_text("link,cycle,green_from,green_to,start,end\na,120,0,60,7:10,7:12\n")
         self.assertEqual(commands.run("signals", str(case), "--cycles", str(greens))[0], 0)
-        self.assertEqual([line.split(",")[1] for line in (case / "signals.csv").read_text().splitlines()[1:]],
-                         ["11"])  # green in slot 10, and red in slot 11
+        self.assertEqual(
+            [line.split(",")[1] for line in (case / "signals.csv").read_text().splitlines()[1:]], ["11"]
+        )  # green in slot 10, and red in slot 11
         self.assertEqual(self.clock(), "7:00\n")
-        for words in (("demand", "--trips", str(trips), "--start", "7:15"),
-                      ("splits", "--routes", str(routes), "--start", "7:10"),
-                      ("signals", "--cycles", str(greens), "--clock", "7:05")):
+        for words in (
+            ("demand", "--trips", str(trips), "--start", "7:15"),
+            ("splits", "--routes", str(routes), "--start", "7:10"),
+            ("signals", "--cycles", str(greens), "--clock", "7:05"),
+        ):
             self.assertEqual(commands.run(words[0], str(case), *words[1:])[0], 0)
             self.assertEqual(self.clock(), f"{words[-1]}\n")
 

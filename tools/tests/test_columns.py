@@ -11,7 +11,7 @@ import unittest
 from pathlib import Path
 from typing import Any
 
-from support import BUILT, FolderTest, needs_columns, needs_sizes
+from support import BUILT, FolderTest, needs_program
 from ltm_tools.case import Case
 from ltm_tools.case.bad_case import BadCase, NoFile, TooLong
 from ltm_tools.case.explain import explain
@@ -65,14 +65,15 @@ class Faults(ColumnsTest):
             for word in ("load", "routes"):
                 if word in told and told[word][0]:
                     with self.subTest(name, word=word):
-                        self.assertNotEqual(explain(str(self.made(told["files"])), told[word][0], told[word][1],
-                                                    [word]), [])
+                        self.assertNotEqual(
+                            explain(str(self.made(told["files"])), told[word][0], told[word][1], [word]), []
+                        )
 
-    @needs_columns
+    @needs_program
     def test_the_program_tells_these(self) -> None:
         self.tells({name: told for name, told in TOLD.items() if name not in SIZES})
 
-    @needs_sizes
+    @needs_program
     def test_the_program_tells_these_of_sizes(self) -> None:
         self.tells(SIZES)
 
@@ -91,13 +92,28 @@ class Faults(ColumnsTest):
 
 class Columns(ColumnsTest):
     def test_headers(self) -> None:
-        """Of seven columns each or not, in order: 128 headers."""
-        more = [header[len(SETUP):] for header in headers_of("setup")]
-        self.assertEqual((len(more), len(set(more))), (128, 128))
-        self.assertTrue({(), ("signals",), ("limits", "cells"), ("cells", "rows"), ("rows", "moves"),
-                         ("signals", "links", "destinations"), SETUP_MORE} <= set(more))
-        self.assertTrue(all([SETUP_MORE.index(column) for column in header]
-                            == sorted(SETUP_MORE.index(column) for column in header) for header in more))
+        """Of eight columns each or not, in order: 256 headers."""
+        more = [header[len(SETUP) :] for header in headers_of("setup")]
+        self.assertEqual((len(more), len(set(more))), (256, 256))
+        self.assertTrue(
+            {
+                (),
+                ("signals",),
+                ("limits", "cells"),
+                ("cells", "rows"),
+                ("rows", "moves"),
+                ("moves", "carry"),
+                ("signals", "links", "destinations"),
+                SETUP_MORE,
+            }
+            <= set(more)
+        )
+        self.assertTrue(
+            all(
+                [SETUP_MORE.index(column) for column in header] == sorted(SETUP_MORE.index(column) for column in header)
+                for header in more
+            )
+        )
 
     def test_both_files_are_fetched_before_either_is_read(self) -> None:
         """signals.csv first: too long beside a missing limits.csv, or missing beside a too long limits.csv."""
@@ -108,6 +124,7 @@ class Columns(ColumnsTest):
         fault = self.fault("load")
         assert isinstance(fault, TooLong)
         self.assertEqual(fault.line(), "too long signals")
+        self.assertEqual(str(fault), "signals.csv has 16,777,217 bytes, and at most 16,777,216 are read")
         (self.folder / "signals.csv").replace(self.folder / "limits.csv")
         fault = self.fault("load")
         assert isinstance(fault, NoFile)
@@ -116,54 +133,104 @@ class Columns(ColumnsTest):
 
     def test_what_the_columns_say(self) -> None:
         case = Case.read(self.made({**TOLD["head-signals-limits-cells-good7"]["files"]}))
-        self.assertEqual((case.setup.signals, case.setup.limits, case.setup.cells, case.setup.most_cells),
-                         (True, True, 2_000_000_000, 2_000_000_000))
+        self.assertEqual(
+            (case.setup.signals, case.setup.limits, case.setup.cells, case.setup.most_cells),
+            (True, True, 2_000_000_000, 2_000_000_000),
+        )
         self.assertTrue(case.signals and case.limits)
         setup = Case.read(self.made({})).setup
-        self.assertEqual((setup.most_cells, setup.most_demand_rows, setup.most_split_rows, setup.most_links,
-                          setup.most_destinations, setup.moves),
-                         (54_000_000, 10_000, 50_000, 4_000, 64, False))
+        self.assertEqual(
+            (
+                setup.most_cells,
+                setup.most_demand_rows,
+                setup.most_split_rows,
+                setup.most_links,
+                setup.most_destinations,
+                setup.moves,
+                setup.carry,
+            ),
+            (54_000_000, 10_000, 50_000, 4_000, 64, False, False),
+        )
         setup = Case.read(self.made(SIZES["sizes-signals-limits-cells-rows-links-destinations-moves"]["files"])).setup
-        self.assertEqual((setup.signals, setup.limits, setup.most_cells, setup.most_demand_rows, setup.most_split_rows,
-                          setup.most_links, setup.most_destinations, setup.moves),
-                         (True, True, 1480, 6, 6, 4, 2, True))
+        self.assertEqual(
+            (
+                setup.signals,
+                setup.limits,
+                setup.most_cells,
+                setup.most_demand_rows,
+                setup.most_split_rows,
+                setup.most_links,
+                setup.most_destinations,
+                setup.moves,
+            ),
+            (True, True, 1480, 6, 6, 4, 2, True),
+        )
 
     def test_they_are_written(self) -> None:
         """Each column that a setup has is written, and read again; one that it does not have is not written."""
-        header = "step_ms,slots,origin_capacity,rows,links,destinations,moves\n"
-        for values in ("500000,16000,256,1", "3,4,2,1", "3,4,2,0"):
+        header = "step_ms,slots,origin_capacity,rows,links,destinations,moves,carry\n"
+        for values in ("500000,16000,256,1,0", "3,4,2,0,1", "3,4,2,0,0"):
             case = Case.read(self.made({"setup": f"{header}1000,12,1,{values}\n", "splits": None}))
+            self.assertEqual((case.setup.moves, case.setup.carry), (values[-3] == "1", values[-1] == "1"))
             case.write(self.folder / "again")
             self.assertEqual(Case.read(self.folder / "again"), case)
         text = (self.folder / "again" / "setup.csv").read_text()
         self.assertEqual(text, "step_ms,slots,origin_capacity,rows,links,destinations\n1000,12,1,3,4,2\n")
 
+    def test_capacity_is_over_with_what_is_carried(self) -> None:
+        """32,000.69 thousandths pass in a slot: one slot of several lets 32,001 pass, unless each is rounded down."""
+        links = "link,from,to,length_m,free_kmh,wave_kmh,jam_per_km\na,n1,n2,1000,29,29,7945\n"
+        files: dict[str, str | None] = {"links": links, "demand": "origin,destination,from_slot,to_slot,vehicles\n"}
+        files |= {"splits": None, "signals": None, "limits": None}
+        for carry in (0, 1):
+            self.made(files | {"setup": f"step_ms,slots,origin_capacity,carry\n1000,12,1,{carry}\n"})
+            fault = self.fault("routes")
+            self.assertEqual(fault and fault.line(), "bad case links row 2 CapacityOver" if carry else None)
+
+    def test_carry_is_0_or_1(self) -> None:
+        for values, place in (("2,2", 4), ("1,2", 5)):
+            self.made({"setup": f"step_ms,slots,origin_capacity,moves,carry\n1000,12,1,{values}\n"})
+            fault = self.fault("load")
+            self.assertEqual(fault and fault.line(), f"bad case setup row 2 Range {place}")
+
     def test_words(self) -> None:
         for name, parts in {
-            "head-bad-limits-signals": ["exactly step_ms,slots,origin_capacity, and behind it each of signals, limits,"
-                                        " cells, rows, links, destinations, moves or not, in this order"],
+            "head-bad-limits-signals": [
+                "exactly step_ms,slots,origin_capacity, and behind it each of signals, limits,"
+                " cells, rows, links, destinations, moves, carry or not, in this order"
+            ],
             "head-limits-limits-2": ['limits "2"', "1 where there is a limits.csv"],
             "head-signals-limits-cells-cells-0": ['cells "0"', "1 to 4,294,967,295"],
             "sizes-cells-4294967296": ['cells "4294967296"', "below 4294967296"],
-            "rows-rows-500001": ['rows "500001"', "1 to 500,000",
-                                 "without this column it is 10,000 for demand and 50,000 for splits"],
+            "rows-rows-500001": [
+                'rows "500001"',
+                "1 to 500,000",
+                "without this column it is 10,000 for demand and 50,000 for splits",
+            ],
             "sizes-links-16001": ['links "16001"', "1 to 16,000", "without this column it is 4,000"],
             "sizes-destinations-257": ['destinations "257"', "1 to 256", "without this column it is 64"],
             "sizes-moves-2": ['moves "2"', "1 where what moves is floored for each turn"],
-            "rows-rows-2": ["there are 2 rows already",
-                            "write up to 500000 in the column rows of setup.csv; or gather rows"],
+            "rows-rows-2": [
+                "there are 2 rows already",
+                "write up to 500000 in the column rows of setup.csv; or gather rows",
+            ],
             "rows-rows-5": ["there are 5 rows already"],
-            "sizes-links-3": ["there are 3 links already",
-                              "write up to 16000 in the column links of setup.csv; or take a part"],
-            "sizes-destinations-1": ["n4 would be destination 2, and at most 1 may be",
-                                     "write up to 256 in the column destinations of setup.csv; or gather nearby"],
+            "sizes-links-3": [
+                "there are 3 links already",
+                "write up to 16000 in the column links of setup.csv; or take a part",
+            ],
+            "sizes-destinations-1": [
+                "n4 would be destination 2, and at most 1 may be",
+                "write up to 256 in the column destinations of setup.csv; or gather nearby",
+            ],
             "head-limits-missing": ["limits.csv is not there", "put 0 in the field limits"],
             "limits-file-slots-over": ["limits.csv, line 2, to_slot", "the horizon has 12 slots"],
             # 1.1 bytes a cell are 1,628, and MB are rounded up
-            "head-cells-cells-1479": ["1,480 cells, and at most 1,479",
-                                      "write 1000000 in the column cells of setup.csv, which takes about 1 MB for a"
-                                      " load",
-                                      "11 of its 12 slots would fit"],
+            "head-cells-cells-1479": [
+                "1,480 cells, and at most 1,479",
+                "write 1000000 in the column cells of setup.csv, which takes about 1 MB for a load",
+                "11 of its 12 slots would fit",
+            ],
         }.items():
             told = TOLD[name]
             text = "\n".join(explain(str(self.made(told["files"])), *told["load"]))

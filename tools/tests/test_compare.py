@@ -10,17 +10,17 @@ from pathlib import Path
 
 import commands
 from support import BUILT, EXAMPLES, FolderTest, needs_program
-from test_delay import DATA, read
+from support_loadings import DATA, read
 from ltm_tools import cli, edits
 from ltm_tools.case import Case
 from ltm_tools.errors import Fault
 from ltm_tools.listing import rounded
 from ltm_tools.loading.compare import Comparison, change, most_changed
-from ltm_tools.loading.loaded import Loaded
+from ltm_tools.loading.loaded import LoadedCase
 from ltm_tools.loading.remaining import Remaining
-from ltm_tools.loading.session import Session
 from ltm_tools.loading.sides import of_curves
 from ltm_tools.program import output
+from ltm_tools.scenario.session import Session
 
 TOLD = {"spent_seconds": "spent", "queued_seconds": "queued", "waited_seconds": "waited"}
 
@@ -36,9 +36,10 @@ def told_by_the_program(folder: Path) -> dict[tuple[str, str], Decimal]:
 
 class Totals(unittest.TestCase):
     def test_a_case_with_another(self) -> None:
-        both = Comparison(of_curves(Loaded(*read("base"))), of_curves(Loaded(*read("base_signals"))))
-        one, other = ((DATA / name / "delay.out").read_text().split("\n")[0].split()
-                      for name in ("base", "base_signals"))
+        both = Comparison(of_curves(LoadedCase(*read("base"))), of_curves(LoadedCase(*read("base_signals"))))
+        one, other = (
+            (DATA / name / "delay.out").read_text().split("\n")[0].split() for name in ("base", "base_signals")
+        )
         told = {name: tuple(Decimal(time).scaleb(-6) for time in pair) for name, pair in both.times().items()}
         for place, name in ((3, "spent"), (5, "queued"), (7, "waited")):
             self.assertEqual(told[name], (Decimal(one[place]), Decimal(other[place])))
@@ -50,17 +51,22 @@ class Totals(unittest.TestCase):
                 self.assertEqual(Decimal(links[words[1]][1]).scaleb(-6), Decimal(words[5]))
 
     def test_a_link_with_its_turns(self) -> None:
-        both = Comparison(of_curves(Loaded(*read("spillback"))), of_curves(Loaded(*read("spillback"))))
+        both = Comparison(of_curves(LoadedCase(*read("spillback"))), of_curves(LoadedCase(*read("spillback"))))
         self.assertEqual(both.links({"x": ("a", "b")}), {"x": both.links()["a"]})
 
     def test_with_itself(self) -> None:
-        both = Comparison(of_curves(Loaded(*read("grid"))), of_curves(Loaded(*read("grid"))))
+        both = Comparison(of_curves(LoadedCase(*read("grid"))), of_curves(LoadedCase(*read("grid"))))
         self.assertEqual(most_changed(both.links()), {})
-        self.assertTrue(all(one == other for pairs in (both.times(), both.amounts(), both.arrivals(1000))
-                            for one, other in pairs.values()))
+        self.assertTrue(
+            all(
+                one == other
+                for pairs in (both.times(), both.amounts(), both.arrivals(1000))
+                for one, other in pairs.values()
+            )
+        )
 
     def test_other_networks(self) -> None:
-        both = Comparison(of_curves(Loaded(*read("spillback"))), of_curves(Loaded(*read("road"))))
+        both = Comparison(of_curves(LoadedCase(*read("spillback"))), of_curves(LoadedCase(*read("road"))))
         self.assertEqual(both.links()["b"], (0, None))
         # 16 slots of 1 s, and 5: what comes after is not there
         self.assertEqual(both.arrivals(4000)[8000], (800, None))
@@ -75,8 +81,9 @@ class Totals(unittest.TestCase):
         self.assertEqual([change(pair) for pair in ((1, 3), (5, 2), (5, None), (None, 4))], [2, -3, -5, 4])
 
     def test_rounded(self) -> None:
-        self.assertEqual([str(rounded(top, 8, 2)) for top in (1, -1, 0, 12, -12)],
-                         ["0.13", "-0.13", "0.00", "1.50", "-1.50"])
+        self.assertEqual(
+            [str(rounded(top, 8, 2)) for top in (1, -1, 0, 12, -12)], ["0.13", "-0.13", "0.00", "1.50", "-1.50"]
+        )
 
 
 LOADING = """kind,name,destination,counts
@@ -95,13 +102,15 @@ class NotThere(FolderTest):
         case = str(self.case(curves=LOADING.format(last=1000)))
         other = self.folder / "other.csv"
         other.write_text(LOADING.format(last=last))
-        return commands.run("compare", case, case, "--curves", f"{case}/curves.csv", "--other-curves", str(other),
-                            *words)
+        return commands.run(
+            "compare", case, case, "--curves", f"{case}/curves.csv", "--other-curves", str(other), *words
+        )
 
     def test_hours_that_are_not_to_be_compared(self) -> None:
-        told = ("hours are not to be compared: 0.000 and 0.002 vehicles are not there by the end, which differ by over"
-                " 0.1 % of the vehicles; "
-                "a longer horizon lets them arrive\n")
+        told = (
+            "hours cannot be compared: 0.000 and 0.002 vehicles have not arrived by the end, which differ by over 0.1 %"
+            " of the vehicles; take a longer horizon\n"
+        )
         status, out, err = self.compare(998)
         self.assertEqual((status, err), (0, ""))
         self.assertIn(f"not_there  0.000  0.002   0.002\n{told}\nqueued on links", out)
@@ -115,7 +124,7 @@ class NotThere(FolderTest):
             for words in ([], ["--format", "csv"]):
                 status, out, err = self.compare(last, *words)
                 self.assertEqual((status, err), (0, ""))
-                self.assertNotIn("not to be compared", out)
+                self.assertNotIn("cannot be compared", out)
         self.assertTrue(Remaining(0, 0).comparable(Remaining(0, 0)))
         self.assertFalse(Remaining(9_000, 10).comparable(Remaining(9_000, 0)))
         self.assertTrue(Remaining(9_000, 0).comparable(Remaining(10_000, 10)))
@@ -133,8 +142,12 @@ class Command(FolderTest):
 
     def run_it(self, *words: str) -> str:
         with redirect_stdout(io.StringIO()) as written:
-            self.assertEqual(cli.run(["compare", str(EXAMPLES / "corridor"), str(self.folder / "wider"), "--program",
-                                      str(BUILT), *words]), 0)
+            self.assertEqual(
+                cli.run(
+                    ["compare", str(EXAMPLES / "corridor"), str(self.folder / "wider"), "--program", str(BUILT), *words]
+                ),
+                0,
+            )
         return written.getvalue()
 
     def test_text(self) -> None:
@@ -150,31 +163,44 @@ class Command(FolderTest):
         links = list(csv.DictReader(io.StringIO(self.run_it("--format", "csv"))))
         self.assertEqual([row["name"] for row in links], [link.name for link in Case.read(EXAMPLES / "corridor").links])
         self.assertEqual([Decimal(row["change"]) for row in links], [Decimal(row["change"]) for row in told["links"]])
-        self.assertEqual(sum(Decimal(row["one"]) for row in links),
-                         {row["name"]: row["one"] for row in told["totals"]}["queued_seconds"])
+        self.assertEqual(
+            sum(Decimal(row["one"]) for row in links),
+            {row["name"]: row["one"] for row in told["totals"]}["queued_seconds"],
+        )
 
     def test_delay_is_the_program_s(self) -> None:
         """Of all, of each link and of each origin what `ltm delay` tells of that case, to the last digit, and their
         difference."""
-        for one, other, apart in (("corridor", self.folder / "wider", 0), ("closures", EXAMPLES / "closures", 0),
-                                  ("incident", EXAMPLES / "merge", 1), ("spillback", EXAMPLES / "evening", 1)):
-            status, text, fault = commands.run("compare", str(EXAMPLES / one), str(other), "--program", str(BUILT),
-                                               "--format", "json")
-            self.assertEqual((status, fault.count("hours are not to be compared"), fault.count("\n")),
-                             (0, apart, apart))
-            assert_told(self, json.loads(text, parse_float=Decimal), told_by_the_program(EXAMPLES / one),
-                        told_by_the_program(Path(other)))
-
+        for one, other, apart in (
+            ("corridor", self.folder / "wider", 0),
+            ("closures", EXAMPLES / "closures", 0),
+            ("incident", EXAMPLES / "merge", 1),
+            ("spillback", EXAMPLES / "evening", 1),
+        ):
+            status, text, fault = commands.run(
+                "compare", str(EXAMPLES / one), str(other), "--program", str(BUILT), "--format", "json"
+            )
+            self.assertEqual((status, fault.count("hours cannot be compared"), fault.count("\n")), (0, apart, apart))
+            assert_told(
+                self,
+                json.loads(text, parse_float=Decimal),
+                told_by_the_program(EXAMPLES / one),
+                told_by_the_program(Path(other)),
+            )
 
     def test_gap(self) -> None:
-        """The gap of docs/MODEL.md, worked by hand: 64.900 vehicle seconds are spent and 65.275 the least, and 4.900
+        """The gap of docs/MODEL.md, worked by hand: 64.900 vehicle seconds are spent, `least` is as much, and 4.600
         vehicles are late. With b as wide as a there is no queue."""
         case, script = str(EXAMPLES / "spillback"), str(EXAMPLES / "spillback" / "script.jsonl")
-        told = json.loads(commands.run("compare", case, "--script", script, "--gap", "--format", "json", "--program",
-                                       str(BUILT))[1], parse_float=Decimal)
+        told = json.loads(
+            commands.run("compare", case, "--script", script, "--gap", "--format", "json", "--program", str(BUILT))[1],
+            parse_float=Decimal,
+        )
         found = {row["name"]: row["one"] for row in told["totals"]}
-        self.assertEqual([str(found[name]) for name in ("spent_seconds", "least_seconds", "gap_seconds", "late")],
-                         ["64.900000", "65.275000", "-0.375000", "4.900"])
+        self.assertEqual(
+            [str(found[name]) for name in ("spent_seconds", "least_seconds", "gap_seconds", "late")],
+            ["64.900000", "64.900000", "0.000000", "4.600"],
+        )
         status, out, fault = commands.run("compare", case, case, "--gap", "--curves", "x", "--program", str(BUILT))
         self.assertEqual((status, out, fault.count("\n")), (1, "", 1))
         self.assertIn("it goes with no curve file", fault)
@@ -191,15 +217,28 @@ class Command(FolderTest):
                 (self.folder / f"{name}.csv").write_bytes(output(folder, "curves", program=BUILT))
             files = ["--curves", str(self.folder / f"{one}.csv"), "--other-curves", str(self.folder / f"{other}.csv")]
             for form in ("text", "json"):
-                words = ["compare", str(self.folder / one), str(self.folder / other), "--every", "0.7", "--format",
-                         form, "--program", str(BUILT)]
+                words = [
+                    "compare",
+                    str(self.folder / one),
+                    str(self.folder / other),
+                    "--every",
+                    "0.7",
+                    "--format",
+                    form,
+                    "--program",
+                    str(BUILT),
+                ]
                 told = commands.run(*words)
                 self.assertEqual(told, commands.run(*words, *files))
                 self.assertEqual(told[0], 0)
 
 
-def assert_told(test: unittest.TestCase, tables: dict[str, list[dict[str, Decimal]]],
-                one: dict[tuple[str, str], Decimal], other: dict[tuple[str, str], Decimal]) -> None:
+def assert_told(
+    test: unittest.TestCase,
+    tables: dict[str, list[dict[str, Decimal]]],
+    one: dict[tuple[str, str], Decimal],
+    other: dict[tuple[str, str], Decimal],
+) -> None:
     """That the tables of a comparison have just these times of both, digit by digit, and their differences."""
     found: tuple[dict[tuple[str, str], str], dict[tuple[str, str], str]] = {}, {}
     for table, kind in (("totals", "totals"), ("links", "link"), ("origins", "node")):
@@ -218,8 +257,10 @@ def assert_told(test: unittest.TestCase, tables: dict[str, list[dict[str, Decima
 class Versions(FolderTest):
     """A session that is edited twice: each of its three versions beside the others."""
 
-    made = [[edits.limit("north_east", 60, 90, 0)], [edits.exit_limit("west_south", 30, 70, 100),
-                                                     edits.demand("west", "east", 0, 60, 300_000)]]
+    made = [
+        [edits.limit("north_east", 60, 90, 0)],
+        [edits.exit_limit("west_south", 30, 70, 100), edits.demand("west", "east", 0, 60, 300_000)],
+    ]
 
     def test_versions_of_a_session(self) -> None:
         with Session(EXAMPLES / "closures", program=BUILT) as session:
@@ -232,14 +273,17 @@ class Versions(FolderTest):
             for one, other in ((0, 1), (1, 2), (2, 0), (0, None)):
                 found = session.compare(one, other)
                 for place, name in enumerate(("spent", "queued", "waited")):
-                    self.assertEqual(found.times()[name],
-                                     (times[one][place], times[2 if other is None else other][place]))
+                    self.assertEqual(
+                        found.times()[name], (times[one][place], times[2 if other is None else other][place])
+                    )
                 for place, name in enumerate(("generated", "arrived", "on_links", "waiting")):
-                    self.assertEqual(found.amounts()[name],
-                                     (totals[one][place], totals[2 if other is None else other][place]))
+                    self.assertEqual(
+                        found.amounts()[name], (totals[one][place], totals[2 if other is None else other][place])
+                    )
                 not_there = [generated - arrived for generated, arrived, *_ in totals]
-                self.assertEqual(found.amounts()["not_there"],
-                                 (not_there[one], not_there[2 if other is None else other]))
+                self.assertEqual(
+                    found.amounts()["not_there"], (not_there[one], not_there[2 if other is None else other])
+                )
             self.assertEqual(len(set(times)), 3)
             for version in (0, 1, 2):
                 session.save(self.folder / str(version), version)
@@ -250,32 +294,41 @@ class Versions(FolderTest):
     def test_versions_of_a_script(self) -> None:
         """A batch that is refused makes no version; a line that is no edit neither."""
         script = self.folder / "script.jsonl"
-        lines = [{"do": "edit", "edits": self.made[0]}, {"do": "totals"},
-                 {"do": "edit", "edits": [edits.limit("nowhere", 0, 1, 0)]}, {"do": "edit", "edits": self.made[1]}]
+        lines = [
+            {"do": "edit", "edits": self.made[0]},
+            {"do": "totals"},
+            {"do": "edit", "edits": [edits.limit("nowhere", 0, 1, 0)]},
+            {"do": "edit", "edits": self.made[1]},
+        ]
         script.write_text("".join(json.dumps(line) + "\n" for line in lines))
         case = str(EXAMPLES / "closures")
         with Session(case, program=BUILT) as session:
             for version, batch in enumerate(self.made, 1):
                 session.edit(*batch)
                 session.save(self.folder / str(version))
-        for words, one, other in (([], EXAMPLES / "closures", self.folder / "2"),
-                                  (["--versions", "2", "1"], self.folder / "2", self.folder / "1")):
-            status, text, fault = commands.run("compare", case, "--script", str(script), "--program", str(BUILT),
-                                               "--format", "json", *words)
-            self.assertEqual((status, fault.count("hours are not to be compared"), fault.count("\n")), (0, 1, 1))
-            assert_told(self, json.loads(text, parse_float=Decimal), told_by_the_program(one),
-                        told_by_the_program(other))
+        for words, one, other in (
+            ([], EXAMPLES / "closures", self.folder / "2"),
+            (["--versions", "2", "1"], self.folder / "2", self.folder / "1"),
+        ):
+            status, text, fault = commands.run(
+                "compare", case, "--script", str(script), "--program", str(BUILT), "--format", "json", *words
+            )
+            self.assertEqual((status, fault.count("hours cannot be compared"), fault.count("\n")), (0, 1, 1))
+            assert_told(
+                self, json.loads(text, parse_float=Decimal), told_by_the_program(one), told_by_the_program(other)
+            )
         told = commands.run("compare", case, "--script", str(script), "--program", str(BUILT))[1]
         self.assertEqual(told.split(";")[0], f"one is version 0 of {case}, other is version 2 of 2")
 
     def test_faults(self) -> None:
         case, script = str(EXAMPLES / "incident"), str(EXAMPLES / "incident" / "script.jsonl")
-        for words, part in (([], "name the folder of another case, or a --script"),
-                            ([case, "--versions", "0", "1"], "--versions tells of a --script"),
-                            ([case, "--script", script], "no other case"),
-                            (["--script", script, "--curves", "x"], "no curve file"),
-                            (["--script", script, "--versions", "0", "2"],
-                             "there is no version 2: 1 batches are accepted")):
+        for words, part in (
+            ([], "name the folder of another case, or a --script"),
+            ([case, "--versions", "0", "1"], "--versions tells of a --script"),
+            ([case, "--script", script], "no other case"),
+            (["--script", script, "--curves", "x"], "no curve file"),
+            (["--script", script, "--versions", "0", "2"], "there is no version 2: 1 batches are accepted"),
+        ):
             status, out, fault = commands.run("compare", case, *words, "--program", str(BUILT))
             self.assertEqual((status, out, fault.count("\n")), (1, "", 1), words)
             self.assertIn(part, fault)

@@ -12,7 +12,8 @@ from support import script
 
 contracts = script("contracts")
 
-SOURCE = """\
+SOURCE = (
+    """\
 pub trait Gate {
     /// Two clauses, with a comment between, and no body.
     fn pass(&mut self, alloc: Global, who: u32) -> bool
@@ -27,11 +28,14 @@ pub(crate) fn plain(a: u32, b: &[(u32, u32)], mut c: Vec<u32>) -> u32 {
 }
 
 pub fn wide<K: Kind, F: Fn(u32, u32) -> u32>(&self, each: F, to: [u32; 4])
-    requires room { (setting_of scenario.now).slots ≤ """ + "x" * 80 + """ }
+    requires room { (setting_of scenario.now).slots ≤ """
+    + "x" * 80
+    + """ }
 {
     within(each)
 }
 """
+)
 
 
 def functions():
@@ -43,8 +47,10 @@ def functions():
 
 class Reads(unittest.TestCase):
     def test_each_function_with_its_clauses(self):
-        self.assertEqual([(it.name, it.public, it.clauses) for it in functions()],
-                         [("pass", False, 2), ("plain", False, 0), ("wide", True, 1)])
+        self.assertEqual(
+            [(it.name, it.public, it.clauses) for it in functions()],
+            [("pass", False, 2), ("plain", False, 0), ("wide", True, 1)],
+        )
 
     def test_arguments_without_self_and_the_allocator(self):
         self.assertEqual([it.arguments for it in functions()], [1, 3, 2])
@@ -59,8 +65,9 @@ class Heads(unittest.TestCase):
             lines = [f"//! - **{it}**: so." for it in contracts.HEADS]
             (Path(folder) / "main.rt").write_text("\n".join(lines), encoding="utf-8")
             self.assertEqual(contracts.heads_missing(Path(folder)), [])
-            (Path(folder) / "main.rt").write_text("\n".join(lines[:2] + [lines[2].replace("**", "")] + lines[3:]),
-                                                  encoding="utf-8")
+            (Path(folder) / "main.rt").write_text(
+                "\n".join(lines[:2] + [lines[2].replace("**", "")] + lines[3:]), encoding="utf-8"
+            )
             self.assertEqual(contracts.heads_missing(Path(folder)), ["What a call costs"])
 
 
@@ -71,8 +78,9 @@ class Prints(unittest.TestCase):
             source.mkdir(parents=True)
             (source / "lib.rt").write_text(SOURCE, encoding="utf-8")
             out, err = io.StringIO(), io.StringIO()
-            with mock.patch.object(contracts, "TOP", Path(folder)), mock.patch.object(sys, "argv",
-                                                                                      ["contracts", *words]):
+            with mock.patch.object(contracts, "TOP", Path(folder)), mock.patch.object(
+                sys, "argv", ["contracts", *words]
+            ):
                 with contextlib.redirect_stdout(out), contextlib.redirect_stderr(err):
                     status = contracts.main()
         return status, out.getvalue(), err.getvalue()
@@ -85,8 +93,9 @@ class Prints(unittest.TestCase):
         self.assertEqual(lines[1], "crates/ltm_gate/src/lib.rt:4: pass: 65536")
         self.assertEqual(lines[2], "3 functions, 3 clauses in 3 lines")
         self.assertEqual(lines[3], "lines over 100 columns: 1 (33.3 in 100); over 120: 1")
-        self.assertEqual(lines[5],
-                         "lines with a number that has no name: 1; `(setting_of scenario.now)` stands 1 times")
+        self.assertEqual(
+            lines[5], "lines with a number that has no name: 1; `(setting_of scenario.now)` stands 1 times"
+        )
 
     def test_no_such_crate(self):
         self.assertEqual(self.run_on("ltm_none"), (1, "", "contracts: there is no crate ltm_none\n"))

@@ -5,13 +5,13 @@ from collections.abc import Collection
 from dataclasses import replace
 from fractions import Fraction
 
+from ltm_tools.demand.cycles import Green
 from ltm_tools.network.crossings.chosen import Chosen, chosen
 from ltm_tools.network.crossings.expand import Expanded, Form, cut_as_they_are, expand
 from ltm_tools.network.crossings.movements import Held, Movement, Movements, movements_of
 from ltm_tools.network.crossings.options import MINOR_GAP
 from ltm_tools.network.crossings.sizes import links_told
-from ltm_tools.network.cycles import Green
-from ltm_tools.network.fit import Fit
+from ltm_tools.network.fit import FittedNetwork
 from ltm_tools.network.network import Network, Node, road_of
 
 PLACES = {"n": (0.0, 300.0), "e": (300.0, 0.0), "s": (0.0, -300.0), "w": (-300.0, 0.0), "c": (0.0, 0.0)}
@@ -26,16 +26,31 @@ def crossing(arms: str = "nesw", metres: int = 300, lanes: int = 2) -> Network:
         made.add_node(Node(name, *place))
     for arm in arms:
         for tail, head in ((arm, "c"), ("c", arm)):
-            made.add(road_of(tail + head, tail, head, metres=Fraction(metres), kmh=Fraction(36),
-                             jam=Fraction(150 * lanes), capacity=Fraction(1800 * lanes)))
+            made.add(
+                road_of(
+                    tail + head,
+                    tail,
+                    head,
+                    metres=Fraction(metres),
+                    kmh=Fraction(36),
+                    jam=Fraction(150 * lanes),
+                    capacity=Fraction(1800 * lanes),
+                )
+            )
     return made
 
 
 def turns(arms: str = "nesw", without: Collection[tuple[str, str]] = (), held: Held | None = HELD) -> Movements:
     """All turns but those back and some others: straight on from both lanes, else from one."""
     pairs = [(one + "c", "c" + other) for one in arms for other in arms if one != other]
-    return movements_of([Movement(*pair, (0, 1) if BACK.get(pair[0][0]) == pair[1][1] else (0,), held)
-                         for pair in pairs if pair not in without], {name: 2 for name in crossing(arms).roads})
+    return movements_of(
+        [
+            Movement(*pair, (0, 1) if BACK.get(pair[0][0]) == pair[1][1] else (0,), held)
+            for pair in pairs
+            if pair not in without
+        ],
+        {name: 2 for name in crossing(arms).roads},
+    )
 
 
 def form(**words: object) -> Form:
@@ -52,13 +67,19 @@ class Four(unittest.TestCase):
         expanded = made(network, turns())
         self.assertEqual(len(network.roads), 8 + 12)
         roads = network.roads
-        self.assertEqual([(roads[name].tail, roads[name].head) for name in ("nc", "nc__cs", "cs")],
-                         [("n", "nc_A"), ("nc_A", "cs_E"), ("cs_E", "s")])
+        self.assertEqual(
+            [(roads[name].tail, roads[name].head) for name in ("nc", "nc__cs", "cs")],
+            [("n", "nc_A"), ("nc_A", "cs_E"), ("cs_E", "s")],
+        )
         # 300 m: 98 for the turn, 202 before it; straight on has both lanes, to the left one of the two
-        self.assertEqual([(road.length, road.storage, road.capacity) for road in
-                          (roads["nc"], roads["nc__cs"], roads["nc__ce"])],
-                         [(202, Fraction(202 * 300, 1000), 3600), (98, Fraction(98 * 300, 1000), 3600),
-                          (98, Fraction(98 * 150, 1000), 1800)])
+        self.assertEqual(
+            [(road.length, road.storage, road.capacity) for road in (roads["nc"], roads["nc__cs"], roads["nc__ce"])],
+            [
+                (202, Fraction(202 * 300, 1000), 3600),
+                (98, Fraction(98 * 300, 1000), 3600),
+                (98, Fraction(98 * 150, 1000), 1800),
+            ],
+        )
         self.assertEqual({road.kmh for road in roads.values()}, {36})
         self.assertNotIn("c", network.nodes)
         self.assertEqual(expanded.own["nc"], ["nc__ce", "nc__cs", "nc__cw"])
@@ -114,7 +135,7 @@ class Forms(unittest.TestCase):
         made(network, turns("neswx"), ends={"c"})
         self.assertEqual(len(network.outs["nc_A"]), 5)
         self.assertEqual(max(len(names) for node, names in network.ins.items() if node != "c"), 4)
-        fit = Fit(network, 5000)
+        fit = FittedNetwork(network, 5000)
         fitted = fit.run()
         self.assertEqual(max(len(names) for side in (fitted.ins, fitted.outs) for names in side.values()), 4)
         self.assertEqual({change.kind for change in fit.changes}, {"node split"})
@@ -125,7 +146,7 @@ class Forms(unittest.TestCase):
         self.assertEqual(made(network, turns()).short, 4)
         self.assertEqual((network.roads["nc"].length, network.roads["nc__cs"].length), (9, 51))
         network.ends = {"n", "e", "s", "w"}
-        fitted = Fit(network, 5000).run()
+        fitted = FittedNetwork(network, 5000).run()
         self.assertNotIn("nc", fitted.roads)
         self.assertEqual((fitted.roads["nc__cs"].tail, fitted.roads["nc__cs"].length), ("n", 60))
 

@@ -2,17 +2,9 @@
 import unittest
 
 from support import FolderTest
+from support_loadings import LOADING
 from ltm_tools.errors import Fault
 from ltm_tools.loading.curves import Curves, Summed
-
-# the loading of the smallest case, as docs/FORMATS.md has it
-LOADING = """kind,name,destination,counts
-up,a,n2,0 500 1000 1000 1000
-down,a,n2,0 0 0 500 1000
-dep,n1,n2,0 500 1000 1000 1000
-dep,n2,n2,0 0 0 0 0
-arr,n2,n2,0 0 0 500 1000
-"""
 
 
 class CurveFiles(FolderTest):
@@ -40,8 +32,10 @@ class CurveFiles(FolderTest):
     def test_faults(self) -> None:
         for text, fault in (
             ("", "does not begin with kind,name"),
-            (LOADING.replace("500 1000 1000 1000\nd", "500 1000 1000\nd", 1),
-             "row 2: it has 4 counts, and the case has 5 boundaries"),
+            (
+                LOADING.replace("500 1000 1000 1000\nd", "500 1000 1000\nd", 1),
+                "row 2: it has 4 counts, and the case has 5 boundaries",
+            ),
             (LOADING.replace("up,a,n2,0 500", "up,a,n2,0 x"), "a count that is no number"),
             (LOADING.replace("up,a", "up,b"), "no `up` of a"),
             (LOADING.replace("up,a", "xx,a"), "row 2: it is no record"),

@@ -14,10 +14,21 @@ from ltm_tools import cli
 DOCUMENTS = sorted([CLONE / "README.md", *(CLONE / "docs").glob("*.md"), *(CLONE / "examples").glob("**/README.md")])
 TOOL = re.compile(r"(?:\$ )?(?:tools/)?ltm-tools (?=[a-z-])")
 LINK = re.compile(r"\]\(([^)#\s]+)(?:#[^)\s]*)?\)")
+ANCHOR = re.compile(r"\]\(([^)#\s]*)#([^)\s]*)\)")
+HEADING = re.compile(r"^#+ (.*)$", re.MULTILINE)
 OPERATORS = (">", ">>", "<", "|", "&&", ";", "2>", "2>&1")
 NAME = r"(/tmp/[\w.]+)(?![\w./])"
-MADE = tuple(before + NAME for before in (r"cp -r \S+ ", r"ltm-tools (?:apply|from-gmns) \S+(?: \S+)? ", ">",
-                                          r'write\("', r"make\.py \w+ ", "-o "))
+MADE = tuple(
+    before + NAME
+    for before in (
+        r"cp -r \S+ ",
+        r"ltm-tools (?:apply|from-gmns) \S+(?: \S+)? ",
+        ">",
+        r'write\("',
+        r"make\.py \w+ ",
+        "-o ",
+    )
+)
 
 
 def command_lines(text: str) -> Iterator[list[str]]:
@@ -26,7 +37,7 @@ def command_lines(text: str) -> Iterator[list[str]]:
     for line in re.sub(r"\\\n\s*", "", text).splitlines():
         found = TOOL.match(line.strip()) if line.startswith("  ") else None
         if found:
-            words = shlex.split(re.split(r" {3,}|\s#\s", line.strip()[found.end():])[0])
+            words = shlex.split(re.split(r" {3,}|\s#\s", line.strip()[found.end() :])[0])
             end = next((place for place, word in enumerate(words) if word.startswith(OPERATORS)), len(words))
             yield words[:end]
 
@@ -52,6 +63,12 @@ def made_by(text: str) -> list[tuple[str, str]]:
     return [(name, line) for line in lines for form in MADE for name in re.findall(form, line)]
 
 
+def anchors(text: str) -> set[str]:
+    """The names by which a page's headings are linked to."""
+    plain = (re.sub(r"\]\([^)]*\)|[^\w\s-]", "", heading.lower()) for heading in HEADING.findall(text))
+    return {heading.strip().replace(" ", "-") for heading in plain}
+
+
 class Words(unittest.TestCase):
     def test_examples_of_a_command(self) -> None:
         for module in cli.commands():
@@ -67,20 +84,50 @@ class Words(unittest.TestCase):
             self.assertEqual(fault_of(words), "", (name, words))
 
     def test_a_line_that_is_wrong_is_found(self) -> None:
-        self.assertEqual(list(command_lines("  ltm-tools times a b --links  --x\n text\n"
-                                            "    $ tools/ltm-tools queues a >b   note\nltm-tools no\n")),
-                         [["times", "a", "b", "--links", "--x"], ["queues", "a"]])
+        self.assertEqual(
+            list(
+                command_lines(
+                    "  ltm-tools times a b --links  --x\n text\n"
+                    "    $ tools/ltm-tools queues a >b   note\nltm-tools no\n"
+                )
+            ),
+            [["times", "a", "b", "--links", "--x"], ["queues", "a"]],
+        )
         self.assertIn("unrecognized arguments: --links", fault_of(["times", "a", "b", "--links"]))
 
 
 class Links(unittest.TestCase):
     def test_each_leads_to_a_file_that_is_there(self) -> None:
         """Pictures too; addresses are passed over."""
-        found = [(path, target) for path in DOCUMENTS for target in LINK.findall(path.read_text(encoding="utf-8"))
-                 if "://" not in target]
+        found = [
+            (path, target)
+            for path in DOCUMENTS
+            for target in LINK.findall(path.read_text(encoding="utf-8"))
+            if "://" not in target
+        ]
         self.assertGreater(len(found), 100)
-        self.assertEqual([f"{path.relative_to(CLONE)}: {target}" for path, target in found
-                          if not (path.parent / target).exists()], [])
+        self.assertEqual(
+            [f"{path.relative_to(CLONE)}: {target}" for path, target in found if not (path.parent / target).exists()],
+            [],
+        )
+
+    def test_each_part_of_a_page_is_a_heading(self) -> None:
+        found = [
+            (path, target, part)
+            for path in DOCUMENTS
+            for target, part in ANCHOR.findall(path.read_text(encoding="utf-8"))
+            if "://" not in target
+        ]
+        self.assertGreater(len(found), 30)
+        self.assertEqual(
+            [
+                f"{path.relative_to(CLONE)}: {target}#{part}"
+                for path, target, part in found
+                if part not in anchors((path.parent / target if target else path).read_text(encoding="utf-8"))
+            ],
+            [],
+        )
+        self.assertEqual(anchors("# A `b`, [c](d.md)\n## E-f: 2nd\n"), {"a-b-c", "e-f-2nd"})
 
 
 class Folders(unittest.TestCase):
@@ -94,8 +141,10 @@ class Folders(unittest.TestCase):
         self.assertEqual({name: lines for name, lines in makers.items() if len(lines) > 1}, {})
 
     def test_what_makes_one(self) -> None:
-        text = ("    $ cp -r examples/a /tmp/one\n    tools/ltm-tools apply a b /tmp/two\n"
-                "    ./ltm a curves >/tmp/three.csv\nfrom-gmns /tmp/no\n")
+        text = (
+            "    $ cp -r examples/a /tmp/one\n    tools/ltm-tools apply a b /tmp/two\n"
+            "    ./ltm a curves >/tmp/three.csv\nfrom-gmns /tmp/no\n"
+        )
         self.assertEqual([name for name, _ in made_by(text)], ["/tmp/one", "/tmp/two", "/tmp/three.csv"])
 
 

@@ -25,8 +25,9 @@ class Records(unittest.TestCase):
 
     def test_lines(self) -> None:
         self.assertEqual(list(records(b"a\r\n\r\nb\n")), [Record(1, ["a"]), Record(3, ["b"])])
-        self.assertEqual(list(records(b'"a\r\nb"\r\n\r\nc\rd\n')),
-                         [Record(1, ["a\r\nb"]), Record(4, ["c"]), Record(5, ["d"])])
+        self.assertEqual(
+            list(records(b'"a\r\nb"\r\n\r\nc\rd\n')), [Record(1, ["a\r\nb"]), Record(4, ["c"]), Record(5, ["d"])]
+        )
 
     def test_bytes_that_are_no_text(self) -> None:
         self.assertEqual(shown(fields(b"Stra\xdfe\n")[0][0]), '"Stra\\xdfe"')
@@ -38,8 +39,9 @@ class Tables(FolderTest):
         path = self.folder / "table.csv"
         path.write_bytes("\ufefflength, id ,name\r\n1.5,7,M\u00fcller\r\n\r\n".encode())
         (row,) = read_table(path, ["id", "length"])
-        self.assertEqual((row.whole("id"), row.number("length"), row.text("name"), row.number("lanes", 1)),
-                         (7, 1.5, "Müller", 1))
+        self.assertEqual(
+            (row.whole("id"), row.number("length"), row.text("name"), row.number("lanes", 1)), (7, 1.5, "Müller", 1)
+        )
         with self.assertRaisesRegex(Fault, 'table.csv row 2: length is "1.5": a whole number is wanted'):
             row.whole("length")
 

@@ -8,25 +8,28 @@ from support import FolderTest
 
 from made_network import made_network
 from ltm_tools.network.arms import ARMS
-from ltm_tools.network.fit import Fit
-from ltm_tools.network.network import Network, least_times, totals
+from ltm_tools.network.fit import FittedNetwork
+from ltm_tools.network.network import Network, least_times, road_totals
 
 STEPS = (500, 1000, 2000, 5000, 10_000, 20_000)
 COUNT = 2000
 
 
-def faults(raw: Network, fit: Fit) -> list[str]:
+def faults(raw: Network, fit: FittedNetwork) -> list[str]:
     """What does not hold of a network and what it was made of."""
     made, found = fit.network, []
     parts = [part for road in made.roads.values() for part in road.parts]
     found += ["too short"] * bool(fit.too_short())
     found += [f"arms of {node}" for node in made.nodes if max(len(made.ins[node]), len(made.outs[node])) > ARMS]
     found += [f"end {node}" for node in raw.ends if fit.node_of(node) != node or node not in made.nodes]
-    found += [f"ways to {node}" for node in raw.ends if set(least_times(raw, node))
-              & raw.ends != set(least_times(made, node)) & raw.ends]
+    found += [
+        f"ways to {node}"
+        for node in raw.ends
+        if set(least_times(raw, node)) & raw.ends != set(least_times(made, node)) & raw.ends
+    ]
     found += ["parts"] * (len(parts) != len(set(parts)) or set(raw.roads) - set(parts) != fit.lost)
     found += ["arms of another network"] * (arms(made) != (made.outs, made.ins))
-    before, after = totals(raw.roads.values()), totals(made.roads.values())
+    before, after = road_totals(raw.roads.values()), road_totals(made.roads.values())
     found += ["metres"] * (sum(change.metres for change in fit.changes) != after[0] - before[0])
     found += ["time"] * (sum(change.time for change in fit.changes) != after[1] - before[1])
     return found
@@ -49,7 +52,7 @@ class Fitted(unittest.TestCase):
     def test_networks_made_at_random(self) -> None:
         for seed in range(COUNT):
             raw, step = made_network(seed), random.Random(seed).choice(STEPS)
-            fit = Fit(raw, step)
+            fit = FittedNetwork(raw, step)
             fit.run()
             self.assertEqual(faults(raw, fit), [], f"seed {seed}, step {step}")
 
@@ -57,10 +60,11 @@ class Fitted(unittest.TestCase):
         """Where one road is contracted onto several their density falls, and with it what they can carry: it is not
         done then."""
         raw = made_network(272)
-        fit = Fit(raw, 5000)
+        fit = FittedNetwork(raw, 5000)
         made = fit.run()
-        self.assertEqual({name: road.capacity for name, road in made.roads.items()
-                          if road.capacity != raw.roads[name].capacity}, {})
+        self.assertEqual(
+            {name: road.capacity for name, road in made.roads.items() if road.capacity != raw.roads[name].capacity}, {}
+        )
 
 
 class Imported(FolderTest):
@@ -73,8 +77,10 @@ class Imported(FolderTest):
 
     def test_two_roads_into_a_node_that_go_on_by_the_same_one(self) -> None:
         """Neither is in series with it: once that was counted as two pairs, and the road was merged twice."""
-        link = ("link_id,from_node_id,to_node_id,length,lanes,free_speed,capacity,directed\n"
-                "k7,4,16,1010,1,50,1800,1\nk41,16,4,311,1,50,1800,0\nk42,16,12,9,1,50,1800,1\n")
+        link = (
+            "link_id,from_node_id,to_node_id,length,lanes,free_speed,capacity,directed\n"
+            "k7,4,16,1010,1,50,1800,1\nk41,16,4,311,1,50,1800,0\nk42,16,12,9,1,50,1800,1\n"
+        )
         for ends in ("4,12,100\n", "4,16,100\n"):
             self.assertEqual(self.imported(link, "--fit", "5000", demand=ends)[::2], (0, ""))
         # the advice where a link is too short fits the network to each step
@@ -89,12 +95,21 @@ class Imported(FolderTest):
             link = "link_id,from_node_id,to_node_id,length,free_speed,lanes,capacity\n" + "".join(
                 f"{road.name},{road.tail[1:]},{road.head[1:]},{whole(road.length)},{whole(road.kmh)},1,"
                 f"{whole(road.capacity)}\n"
-                for road in raw.roads.values())
+                for road in raw.roads.values()
+            )
             ends = sorted(raw.ends)
-            demand = "".join(f"{one[1:]},{other[1:]},{chance.randint(1, 900)}\n" for one in ends for other in ends
-                             if one != other)
-            words = ("--fit", str(chance.choice(STEPS)), "--jam", "300", "--horizon", "80",
-                     *(["--no-balance"] if chance.random() < 0.3 else []))
+            demand = "".join(
+                f"{one[1:]},{other[1:]},{chance.randint(1, 900)}\n" for one in ends for other in ends if one != other
+            )
+            words = (
+                "--fit",
+                str(chance.choice(STEPS)),
+                "--jam",
+                "300",
+                "--horizon",
+                "80",
+                *(["--no-balance"] if chance.random() < 0.3 else []),
+            )
             status, _, err = self.imported(link, *words, "--leave-out-unreached", demand=demand)
             self.assertEqual((status, err), (0, ""), f"seed {seed}")
 

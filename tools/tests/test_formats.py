@@ -14,32 +14,47 @@ class Fields(unittest.TestCase):
             self.assertIsNone(formats.whole_of(text), text)
 
     def test_vehicles(self) -> None:
-        known = {"7": 7000, "7.2": 7200, "7.225": 7225, "0.05": 50, "00000000000000000001": 1000,
-                 "1000000": 1_000_000_000}
+        known = {
+            "7": 7000,
+            "7.2": 7200,
+            "7.225": 7225,
+            "0.05": 50,
+            "00000000000000000001": 1000,
+            "1000000": 1_000_000_000,
+        }
         self.assertEqual({text: formats.units_of(text) for text in known}, known)
         for text in ("", ".5", "7.", "7.2250", "1000000.001", "-1", "1e3", "1,5", "99999999999999999999"):
             with self.assertRaises(Fault, msg=text):
                 formats.units_of(text)
 
     def test_vehicles_as_text(self) -> None:
-        self.assertEqual([formats.vehicles_text(units) for units in (0, 50, 1250, -1250)],
-                         ["0.000", "0.050", "1.250", "-1.250"])
-        self.assertEqual([formats.short_vehicles(units) for units in (0, 50, 1250, 7000, 10_000)],
-                         ["0", "0.05", "1.25", "7", "10"])
+        self.assertEqual(
+            [formats.vehicles_text(units) for units in (0, 50, 1250, -1250)], ["0.000", "0.050", "1.250", "-1.250"]
+        )
+        self.assertEqual(
+            [formats.short_vehicles(units) for units in (0, 50, 1250, 7000, 10_000)], ["0", "0.05", "1.25", "7", "10"]
+        )
 
     def test_numbers_that_the_program_prints(self) -> None:
-        self.assertEqual([formats.told_units(text) for text in ("0.000", "0.001", "39998800.000")],
-                         [0, 1, 39_998_800_000])
-        self.assertEqual([formats.told_time(text) for text in ("0.000001", "64.900000", "23886590999982.360000")],
-                         [1, 64_900_000, 23_886_590_999_982_360_000])
-        for told, texts in ((formats.told_units, ("7", "7.2", "7.2250", "-1.000", ".000", "1.000 ", "\u0667.000", "")),
-                            (formats.told_time, ("7", "1.000", "1.0000000", "+1.000000"))):
+        self.assertEqual(
+            [formats.told_units(text) for text in ("0.000", "0.001", "39998800.000")], [0, 1, 39_998_800_000]
+        )
+        self.assertEqual(
+            [formats.told_time(text) for text in ("0.000001", "64.900000", "23886590999982.360000")],
+            [1, 64_900_000, 23_886_590_999_982_360_000],
+        )
+        for told, texts in (
+            (formats.told_units, ("7", "7.2", "7.2250", "-1.000", ".000", "1.000 ", "\u0667.000", "")),
+            (formats.told_time, ("7", "1.000", "1.0000000", "+1.000000")),
+        ):
             for text in texts:
                 self.assertRaises(Fault, told, text)
 
     def test_exact_vehicles(self) -> None:
-        self.assertEqual([formats.exact_units(amount) for amount in (7, "1.25", Decimal("1.25"), Fraction(5, 4))],
-                         [7000, 1250, 1250, 1250])
+        self.assertEqual(
+            [formats.exact_units(amount) for amount in (7, "1.25", Decimal("1.25"), Fraction(5, 4))],
+            [7000, 1250, 1250, 1250],
+        )
         with self.assertRaises(Fault):
             formats.exact_units(Fraction(1, 3))
 
@@ -65,8 +80,14 @@ class Clock(unittest.TestCase):
                 formats.clock_ms(text)
 
     def test_as_text(self) -> None:
-        known = {0: "0:00", 27_900_000: "7:45", 27_930_000: "7:45:30", 27_930_500: "7:45:30.5", 93_600_000: "26:00",
-                 7: "0:00:00.007"}
+        known = {
+            0: "0:00",
+            27_900_000: "7:45",
+            27_930_000: "7:45:30",
+            27_930_500: "7:45:30.5",
+            93_600_000: "26:00",
+            7: "0:00:00.007",
+        }
         self.assertEqual({ms: formats.clock_text(ms) for ms in known}, known)
 
 

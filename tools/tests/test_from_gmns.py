@@ -6,73 +6,103 @@ from fractions import Fraction
 from unittest import mock
 
 import commands
-from support import EXAMPLES, FolderTest
+from support import EXAMPLES
+from support_gmns import GmnsTest, PLAIN
 
 from ltm_tools.case import Case
-from ltm_tools.network.ends import Joined, joined, most_used
+from ltm_tools.network.ends import Joined, nearest_kept, most_used
 from ltm_tools.network.names import names_for
 from ltm_tools.network.network import Network, road_of
 from ltm_tools.network.reach import Reach
 
 
-class GmnsTest(FolderTest):
-    """Makes networks in `self.folder/net` and cases in `self.folder/case`."""
-
-    def net(self, link: str, node: str | None = None, demand: str | None = None, encoding: str = "utf-8",
-            **more: str) -> None:
-        folder = self.folder / "net"
-        folder.mkdir(exist_ok=True)
-        for name, text in {"link": link, "node": node, "demand": demand, **more}.items():
-            if text is not None:
-                (folder / f"{name}.csv").write_text(text, encoding=encoding)
-
-    def make(self, *words: str) -> tuple[int, str, str]:
-        return commands.run("from-gmns", str(self.folder / "net"), str(self.folder / "case"), *words)
-
-    def made(self, *words: str) -> Case:
-        status, self.out, err = self.make(*words)
-        self.assertEqual((status, err), (0, ""))
-        return Case.read(self.folder / "case")
-
-    def links(self, *words: str) -> dict[str, tuple[int, int, int]]:
-        return {link.name: (link.length_m, link.free_kmh, link.jam_per_km) for link in self.made(*words).links}
-
-    def refused(self, *words: str) -> str:
-        status, _, err = self.make(*words)
-        self.assertEqual(status, 1)
-        self.assertFalse((self.folder / "case").exists())
-        self.assertNotIn("Traceback", err)
-        return err
-
-
-PLAIN = "link_id,from_node_id,to_node_id,length,lanes,free_speed,capacity\na,1,2,1000,1,60,1000\nb,2,3,1000,1,60,1000\n"
+KM = (("a", "1", "2", "1.5"), ("b", "2", "3", "3"), ("c", "3", "4", "1"))
 
 
 class AsItWas(GmnsTest):
     def test_the_example_gives_the_case_that_it_gave(self) -> None:
-        _, out, _ = commands.run("from-gmns", str(EXAMPLES / "from_gmns" / "gmns"), str(self.folder / "case"),
-                                 "--period", "30", "--horizon", "30")
-        for line in ("13 links, 6 nodes, 3 destinations", "1650 vehicles over 30 minutes, 60 slots of 30000 ms",
-                     "capacities are kept within 5.9 percent",
-                     "35 vehicles stay within a zone and are left out"):
+        _, out, _ = commands.run(
+            "from-gmns",
+            str(EXAMPLES / "from_gmns" / "gmns"),
+            str(self.folder / "case"),
+            "--period",
+            "30",
+            "--horizon",
+            "30",
+            "--entries",
+            "none",
+            "--carry",
+            "0",
+        )
+        for line in (
+            "13 links, 6 nodes, 3 destinations",
+            "1650 vehicles over 30 minutes, 60 slots of 30000 ms",
+            "capacities are kept within 5.9 percent",
+            "35 vehicles stay within a zone and are left out",
+        ):
             self.assertIn(line + "\n", out)
         text = (self.folder / "case" / "links.csv").read_text()
         self.assertIn("104_r,5,4,820,70,7,300\n", text)
         self.assertIn("1,3,0,60,420\n", (self.folder / "case" / "demand.csv").read_text())
 
+    def test_one_of_each_is_no_several(self) -> None:
+        self.net(
+            "link_id,from_node_id,to_node_id,length,lanes,free_speed,capacity\na,1,2,1000,1,60,1000\n",
+            node="node_id,zone_id\n1,1\n2,2\n",
+            demand="o_zone_id,d_zone_id,volume\n1,2,7\n",
+        )
+        self.made("--period", "30", "--horizon", "30")
+        self.assertTrue(self.out.startswith("1 link, 2 nodes, 1 destination\n"), self.out)
+        case = str(self.folder / "case")
+        (self.folder / "table.csv").write_text("origin,destination,vehicles\n1,2,7\n")
+        words = "demand", case, "--table", str(self.folder / "table.csv")
+        self.assertIn("7 vehicles to 1 destination in 1 row\n", commands.run(*words)[1])
+        (self.folder / "cycles.csv").write_text("link,cycle,green_from,green_to\na,3600,0,60\n")
+        words = "signals", case, "--cycles", str(self.folder / "cycles.csv")
+        self.assertRegex(commands.run(*words)[1], "^[0-9]+ records? of signals, of 1 link\n")
+        (self.folder / "turns.csv").write_text("from_link,to_link,vehicles\n")
+        words = "splits", case, "--turns", str(self.folder / "turns.csv")
+        self.assertIn("1 row of splits for 1 destination; none has a loop\n", commands.run(*words)[1])
+
+    def test_a_unit_that_is_guessed_is_told_first(self) -> None:
+        """Links of 1 to 3 km by the places of their ends: 0.0135 degrees of latitude are 1.5 km."""
+        rows = "".join(f"{name},{tail},{head},{length},1,60,1000\n" for name, tail, head, length in KM)
+        self.net(
+            "link_id,from_node_id,to_node_id,length,lanes,free_speed,capacity\n" + rows,
+            node="node_id,x_coord,y_coord\n1,10,50\n2,10,50.0135\n3,10,50.0405\n4,10,50.0495\n",
+        )
+        self.assertEqual(self.links()["b"][0], 3000)
+        self.assertTrue(
+            self.out.startswith(
+                "no unit of lengths is given: they are read as km, as the places of nodes and lines say;"
+                " --length-unit m reads them as metres\n"
+            ),
+            self.out,
+        )
+        self.assertTrue(self.make("--length-unit", "km")[1].startswith("3 links, "))
+
     def test_a_link_too_short_for_the_step_is_named(self) -> None:
         self.net(PLAIN.replace("1000,1,60", "990,1,60"))
         # 990 m at 60 km/h take 59.4 s
-        self.assertIn("cannot be carried: link a: 990 m at 60 and 8 km/h allow a step of at most 59400 ms, and 60000 ms"
-                      " are asked for\n",
-                      self.refused("--step", "60000"))
+        self.assertIn(
+            "cannot be carried: link a: 990 m at 60 and 8 km/h allow a step of at most 59400 ms, and 60000 ms"
+            " are asked for\n",
+            self.refused("--step", "60000"),
+        )
 
 
 class Fields(GmnsTest):
     def test_any_order_more_columns_semicolons_decimal_commas_and_latin_1(self) -> None:
-        self.net("name;lanes;TO_NODE_ID;length;from_node_id;free_speed;capacity;link_id\n"
-                 "Straße;2;2;999,6;1;50,4;900;a\nWeg;1;3;500;2;50;900;b\n", encoding="latin-1")
+        self.net(
+            "name;lanes;TO_NODE_ID;length;from_node_id;free_speed;capacity;link_id\n"
+            "Straße;2;2;999,6;1;50,4;900;a\nWeg;1;3;500;2;50;900;b\n",
+            encoding="latin-1",
+        )
         self.assertEqual(self.links(), {"a": (1000, 50, 300), "b": (500, 50, 150)})
+
+    def test_demand_by_node_without_zones(self) -> None:
+        self.net(PLAIN, "node_id,x_coord,y_coord\n1,0,0\n2,1000,0\n3,2000,0\n", "o_zone_id,d_zone_id,volume\n1,3,60\n")
+        self.assertEqual([(it.origin, it.destination, it.units) for it in self.made().demand], [("1", "3", 60000)])
 
     def test_utf_16_and_the_note_of_it(self) -> None:
         self.net(PLAIN, encoding="utf-16")
@@ -82,19 +112,26 @@ class Fields(GmnsTest):
 
     def test_lengths_by_geometry_in_degrees(self) -> None:
         # 0.01 degrees of longitude at the equator on a sphere of 6371008.8 m: 6371008.8 * pi / 18000 = 1111.95 m
-        self.net('link_id,from_node_id,to_node_id,lanes,free_speed,geometry\n'
-                 'a,1,2,1,60,"LINESTRING (0 0, 0.005 0, 0.01 0)"\nb,2,3,1,60,"LINESTRING (0.01 0, 0.03 0)"\n')
+        self.net(
+            "link_id,from_node_id,to_node_id,lanes,free_speed,geometry\n"
+            'a,1,2,1,60,"LINESTRING (0 0, 0.005 0, 0.01 0)"\nb,2,3,1,60,"LINESTRING (0.01 0, 0.03 0)"\n'
+        )
         self.assertEqual(self.links(), {"a": (1112, 60, 150), "b": (2224, 60, 150)})
 
     def test_lengths_by_places_of_nodes(self) -> None:
-        self.net("link_id,from_node_id,to_node_id,lanes,free_speed\na,1,2,1,60\nb,2,3,1,60\n",
-                 "node_id,x_coord,y_coord\n1,1000,1000\n2,1300,1400\n3,1300,2400\n")
+        self.net(
+            "link_id,from_node_id,to_node_id,lanes,free_speed\na,1,2,1,60\nb,2,3,1,60\n",
+            "node_id,x_coord,y_coord\n1,1000,1000\n2,1300,1400\n3,1300,2400\n",
+        )
         self.assertEqual(self.links(), {"a": (500, 60, 150), "b": (1000, 60, 150)})
 
     def test_without_length_and_places_it_is_refused(self) -> None:
         self.net("link_id,from_node_id,to_node_id\na,1,2\n")
-        self.assertIn("cannot be carried: link a: no length, and no geometry or places of its nodes to work it out;"
-                      " give the field length\n", self.refused())
+        self.assertIn(
+            "cannot be carried: link a: no length, and no geometry or places of its nodes to work it out;"
+            " give the field length\n",
+            self.refused(),
+        )
 
     def test_units_by_arguments_and_by_config(self) -> None:
         self.net(PLAIN.replace("1000,1,60", "0.5,1,30"), config="dataset_name,long_length,speed\nx,mi,mph\n")
@@ -104,8 +141,10 @@ class Fields(GmnsTest):
     def test_miles_are_known_by_the_places(self) -> None:
         rows = "".join(f"l{number},{number},{number + 1},0.691,1,60,900\n" for number in range(1, 6))
         nodes = "".join(f"{number},{number / 100},0\n" for number in range(1, 7))
-        self.net("link_id,from_node_id,to_node_id,length,lanes,free_speed,capacity\n" + rows,
-                 "node_id,x_coord,y_coord\n" + nodes)
+        self.net(
+            "link_id,from_node_id,to_node_id,length,lanes,free_speed,capacity\n" + rows,
+            "node_id,x_coord,y_coord\n" + nodes,
+        )
         self.assertEqual(self.links()["l1"][0], 1112)
 
     def test_capacity_lanes_and_speed_by_kind(self) -> None:
@@ -115,10 +154,18 @@ class Fields(GmnsTest):
         self.assertIn("2 links get their capacity by their kind", self.make()[1])
 
     def test_two_ways_by_directed(self) -> None:
-        for text, names in (("0", {"a", "a_r"}), ("0.0", {"a", "a_r"}), ("false", {"a", "a_r"}), ("1", {"a"}),
-                            ("TRUE", {"a"}), ("", {"a"})):
-            self.net(f"link_id,from_node_id,to_node_id,length,lanes,free_speed,capacity,directed\n"
-                     f"a,1,2,1000,1,60,900,{text}\n")
+        for text, names in (
+            ("0", {"a", "a_r"}),
+            ("0.0", {"a", "a_r"}),
+            ("false", {"a", "a_r"}),
+            ("1", {"a"}),
+            ("TRUE", {"a"}),
+            ("", {"a"}),
+        ):
+            self.net(
+                f"link_id,from_node_id,to_node_id,length,lanes,free_speed,capacity,directed\n"
+                f"a,1,2,1000,1,60,900,{text}\n"
+            )
             self.assertEqual(set(self.links()), names)
 
     def test_links_that_end_where_they_begin(self) -> None:
@@ -130,28 +177,36 @@ class Fields(GmnsTest):
     def test_many_faults_of_one_kind(self) -> None:
         """Twenty are told, and how many more there are."""
         for count, last in ((20, "link l19"), (21, "1 more such faults of links"), (24, "4 more such faults of links")):
-            self.net("link_id,from_node_id,to_node_id,length,lanes,free_speed,capacity\n"
-                     + "".join(f"l{number},{number},{number + 1},none,1,60,900\n" for number in range(count)))
+            self.net(
+                "link_id,from_node_id,to_node_id,length,lanes,free_speed,capacity\n"
+                + "".join(f"l{number},{number},{number + 1},none,1,60,900\n" for number in range(count))
+            )
             told = [line for line in self.refused().splitlines() if line.startswith("cannot be carried: ")]
             self.assertEqual(len(told), min(count, 21))
             self.assertTrue(told[-1].startswith(f"cannot be carried: {last}"), told[-1])
 
     def test_ids_that_were_written_as_decimals(self) -> None:
-        self.net(PLAIN.replace("a,1,2", "a,1.0,2.0").replace("b,2,3", "b,2.0,3.0"),
-                 demand="o_zone_id,d_zone_id,volume\n1,3,7\n")
+        self.net(
+            PLAIN.replace("a,1,2", "a,1.0,2.0").replace("b,2,3", "b,2.0,3.0"),
+            demand="o_zone_id,d_zone_id,volume\n1,3,7\n",
+        )
         self.assertEqual([(row.origin, row.destination, row.units) for row in self.made().demand], [("1", "3", 7000)])
 
     def test_links_that_are_not_for_cars_are_left_out_and_told(self) -> None:
-        self.net("link_id,from_node_id,to_node_id,length,facility_type,allowed_uses\na,1,2,900,primary,auto\n"
-                 "f,1,2,900,footway,\nw,1,2,900,primary,\"bike,ped\"\n")
+        self.net(
+            "link_id,from_node_id,to_node_id,length,facility_type,allowed_uses\na,1,2,900,primary,auto\n"
+            'f,1,2,900,footway,\nw,1,2,900,primary,"bike,ped"\n'
+        )
         self.assertEqual(set(self.links()), {"a"})
         self.assertIn("2 links are not for cars and are left out", self.make()[1])
 
     def test_faults_name_link_field_and_text(self) -> None:
         self.net(PLAIN.replace("b,2,3,1000,1,60", "b,2,3,1000,1,fast"))
-        self.assertEqual(self.refused(),
-                         "cannot be carried: link b: free_speed is 'fast', and a number above 0 is wanted; left empty"
-                         " it is set by the link's kind\n")
+        self.assertEqual(
+            self.refused(),
+            "cannot be carried: link b: free_speed is 'fast', and a number above 0 is wanted; left empty"
+            " it is set by the link's kind\n",
+        )
 
     def test_movements_are_told_to_be_passed_over(self) -> None:
         self.net(PLAIN, movement="mvmt_id,node_id,ib_link_id,ob_link_id\n1,2,a,b\n")
@@ -161,23 +216,35 @@ class Fields(GmnsTest):
         """Each is a fault that names it, or is read exactly."""
         for text in ("1e308", "1e99999999", "-1e99999999", "9" * 400, "1e400", "inf", "nan", "1e-99999999"):
             for old in ("b,2,3,1000", "b,2,3,1000,1,60", "b,2,3,1000,1,60,1000"):
-                self.net(PLAIN.replace(old + ("\n" if old.endswith("60,1000") else ","),
-                                       old.rpartition(",")[0] + f",{text}"
-                                       + ("\n" if old.endswith("60,1000") else ",")))
+                self.net(
+                    PLAIN.replace(
+                        old + ("\n" if old.endswith("60,1000") else ","),
+                        old.rpartition(",")[0] + f",{text}" + ("\n" if old.endswith("60,1000") else ","),
+                    )
+                )
                 status, _, err = self.make()
                 self.assertNotIn("Traceback", err)
-                self.assertTrue(status == 0 and text == "nan" or "and a number above 0 is wanted" in err
-                                or "no length" in err, (text, old, err))
+                self.assertTrue(
+                    status == 0 and text == "nan" or "and a number above 0 is wanted" in err or "no length" in err,
+                    (text, old, err),
+                )
             self.net(PLAIN, demand=f"o_zone_id,d_zone_id,volume\n1,3,{text}\n")
             shutil.rmtree(self.folder / "case", ignore_errors=True)
-            self.assertRegex(self.refused(),
-                             r"demand\.csv line 2: volume is \".*: a number is wanted|vehicles, and 0 to 1000000 are"
-                             r" allowed")
+            self.assertRegex(
+                self.refused(),
+                r"demand\.csv line 2: volume is \".*: a number is wanted|vehicles, and 0 to 1000000 are allowed",
+            )
             (self.folder / "net" / "demand.csv").unlink()
         self.net(PLAIN, demand="o_zone_id,d_zone_id,volume\n1,3,3.2e-41\n1,2,4\n")
         self.assertEqual([(row.destination, row.units) for row in self.made().demand], [("2", 4000)])
-        for words in (("--jam", "1e99999999"), ("--jam", "1e400"), ("--step", "1e99999999"), ("--fit", "1e-99999999s"),
-                      ("--horizon", "9" * 4000), ("--period", "1e3")):
+        for words in (
+            ("--jam", "1e99999999"),
+            ("--jam", "1e400"),
+            ("--step", "1e99999999"),
+            ("--fit", "1e-99999999s"),
+            ("--horizon", "9" * 4000),
+            ("--period", "1e3"),
+        ):
             status, out, err = self.make(*words)
             self.assertEqual((status, out, err.count("\n")), (1, "", 1), words)
 
@@ -201,16 +268,18 @@ class Names(GmnsTest):
 
     def test_renamed_with_a_map(self) -> None:
         self.net(self.ODD + "a_0_,3,4,1000,1,60,1000\n")
-        self.assertEqual([(link.name, link.tail, link.head) for link in self.made("--rename").links],
-                         [("a_0__2", "1", "2_3"), ("b_0_", "2_3", "3"), ("a_0_", "3", "4")])
+        self.assertEqual(
+            [(link.name, link.tail, link.head) for link in self.made("--rename").links],
+            [("a_0__2", "1", "2_3"), ("b_0_", "2_3", "3"), ("a_0_", "3", "4")],
+        )
         self.assertIn("a[0],1,2+3,a_0__2\n", (self.folder / "case" / "source_links.csv").read_text())
         self.assertIn("2+3,2_3\n", (self.folder / "case" / "source_nodes.csv").read_text())
 
-
     def test_two_names_that_would_be_one(self) -> None:
-        self.assertEqual(names_for(["a[0]", "a+0+", "b", "x" * 40, "y" * 8 + "x" * 32], True),
-                         {"a[0]": "a_0_", "a+0+": "a_0__2", "b": "b", "x" * 40: "x" * 32,
-                          "y" * 8 + "x" * 32: "x" * 30 + "_2"})
+        self.assertEqual(
+            names_for(["a[0]", "a+0+", "b", "x" * 40, "y" * 8 + "x" * 32], True),
+            {"a[0]": "a_0_", "a+0+": "a_0__2", "b": "b", "x" * 40: "x" * 32, "y" * 8 + "x" * 32: "x" * 30 + "_2"},
+        )
 
 
 class Ends(unittest.TestCase):
@@ -218,10 +287,21 @@ class Ends(unittest.TestCase):
         # 10 s from n0 to n1, 40 s from n1 to n2, 20 s from n2 to n3
         made = Network()
         for number, metres in enumerate((100, 400, 200)):
-            made.add(road_of(f"r{number}", f"n{number}", f"n{number + 1}", metres=Fraction(metres), kmh=Fraction(36),
-                             jam=Fraction(150), capacity=Fraction(1800)))
-        self.assertEqual(joined(made, ["n0", "n3"], ["n1", "n2"]),
-                         {"n1": Joined("n0", Fraction(10_000)), "n2": Joined("n3", Fraction(20_000))})
+            made.add(
+                road_of(
+                    f"r{number}",
+                    f"n{number}",
+                    f"n{number + 1}",
+                    metres=Fraction(metres),
+                    kmh=Fraction(36),
+                    jam=Fraction(150),
+                    capacity=Fraction(1800),
+                )
+            )
+        self.assertEqual(
+            nearest_kept(made, ["n0", "n3"], ["n1", "n2"]),
+            {"n1": Joined("n0", Fraction(10_000)), "n2": Joined("n3", Fraction(20_000))},
+        )
         self.assertEqual(most_used({"a": 1, "b": 5, "c": 5, "d": 2}, 3), ["b", "c", "d"])
 
 
@@ -246,14 +326,28 @@ class Zones(GmnsTest):
         self.assertEqual(self.amounts("--zone-nodes", "even"), {("1", "3"): 5000, ("2", "3"): 5000})
 
     def test_no_route_leads_through_a_zone_of_connectors(self) -> None:
-        link = ("link_id,from_node_id,to_node_id,length,facility_type,directed\nc1,Z,1,500,connector,0\n"
-                "c2,Z,2,500,connector,0\nr,1,2,5000,primary,0\nx,0,1,700,primary,0\n")
+        link = (
+            "link_id,from_node_id,to_node_id,length,facility_type,directed\nc1,Z,1,500,connector,0\n"
+            "c2,Z,2,500,connector,0\nr,1,2,5000,primary,0\nx,0,1,700,primary,0\n"
+        )
         self.net(link, "node_id,zone_id\nZ,9\n0,8\n2,7\n", "o_zone_id,d_zone_id,volume\n8,9,4\n9,8,4\n8,7,1\n")
         case = self.made()
-        self.assertEqual({(link.tail, link.head) for link in case.links if link.name in ("c1", "c1_r")},
-                         {("Z", "1"), ("1", "Z_end")})
-        self.assertEqual([(row.origin, row.destination) for row in case.demand],
-                         [("0", "Z_end"), ("Z", "0"), ("0", "2")])
+        self.assertEqual(
+            {(link.tail, link.head) for link in case.links if link.name in ("c1", "c1_r")}, {("Z", "1"), ("1", "Z_end")}
+        )
+        self.assertEqual(
+            [(row.origin, row.destination) for row in case.demand], [("0", "Z_end"), ("Z", "0"), ("0", "2")]
+        )
+
+    def test_two_nodes_of_a_zone_of_connectors(self) -> None:
+        """The first has one exit, and stays one; through the second, with two, no route leads."""
+        link = (
+            "link_id,from_node_id,to_node_id,length,facility_type,directed\ncy,Y,1,500,connector,0\n"
+            "c1,Z,1,500,connector,0\nc2,Z,2,500,connector,0\nr,1,2,5000,primary,0\nx,0,1,700,primary,0\n"
+        )
+        self.net(link, "node_id,zone_id\nY,9\nZ,9\n0,8\n2,7\n", "o_zone_id,d_zone_id,volume\n8,9,4\n9,8,4\n")
+        case = self.made("--zone-nodes", "even")
+        self.assertEqual({row.destination for row in case.demand if row.origin == "0"}, {"Y", "Z_end"})
 
     def test_demand_without_a_route_is_refused_or_left_out(self) -> None:
         self.net(PLAIN, demand="o_zone_id,d_zone_id,volume\n1,3,2\n3,1,4\n1,7,1\n")
@@ -277,8 +371,9 @@ class Zones(GmnsTest):
         self.assertIn("--destinations is 1 to 256", self.refused("--destinations", "257"))
         case = self.made("--destinations", "2", "--horizon", "60")
         # 258 and 257 have most; whoever wants less far drives on to 257
-        self.assertEqual({row.destination: row.units for row in case.demand},
-                         {"257": 1000 * (257 * 258 // 2 - 1), "258": 258_000})
+        self.assertEqual(
+            {row.destination: row.units for row in case.demand}, {"257": 1000 * (257 * 258 // 2 - 1), "258": 258_000}
+        )
 
     def test_destinations_are_counted_before_ways_are_sought(self) -> None:
         self.row_of_ends(257)
@@ -288,19 +383,26 @@ class Zones(GmnsTest):
     def test_destinations_that_are_asked_for(self) -> None:
         self.row_of_ends(65)
         self.assertEqual(self.made("--horizon", "60").setup.destinations, 65)
-        self.assertIn("\n"
-                      "65 destinations, so the column destinations of setup.csv asks for as many, as without it 64 may"
-                      " be\n"
-                      "65 destinations, more than 16, so the column moves of setup.csv is 1: what moves through a turn"
-                      " is floored for the turn", self.out)
+        self.assertIn(
+            "\n"
+            "65 destinations, so the column destinations of setup.csv asks for as many, as without it 64 may"
+            " be\n"
+            "65 destinations, more than 16, so the column moves of setup.csv is 1: what moves through a turn"
+            " is floored for the turn",
+            self.out,
+        )
         self.row_of_ends(64)
         case = self.made("--horizon", "60")
         self.assertEqual((case.setup.destinations, case.setup.moves), (None, True))
 
     def test_the_rule_of_flooring(self) -> None:
         """1 from 17 destinations on; told where it is not asked for."""
-        for ends, words, moves, told in ((16, (), False, False), (17, (), True, True),
-                                         (17, ("--moves", "0"), False, False), (2, ("--moves", "1"), True, False)):
+        for ends, words, moves, told in (
+            (16, (), False, False),
+            (17, (), True, True),
+            (17, ("--moves", "0"), False, False),
+            (2, ("--moves", "1"), True, False),
+        ):
             self.row_of_ends(ends)
             self.assertEqual(self.made("--horizon", "60", *words).setup.moves, moves, (ends, words))
             self.assertEqual("so the column moves of setup.csv is 1" in self.out, told, (ends, words))
@@ -313,8 +415,11 @@ class Zones(GmnsTest):
         self.net("link_id,from_node_id,to_node_id,length,lanes,free_speed,capacity\n" + rows, demand=demand)
         case = self.made("--horizon", "60", "--step", "30s")
         self.assertEqual(case.setup.rows, 63_000)
-        self.assertIn("65 rows of demand and 62,920 of routes, so the column rows of setup.csv asks for 63,000 of each,"
-                      " as without it 10,000 and 50,000 may be\n", self.out)
+        self.assertIn(
+            "65 rows of demand and 62,920 of routes, so the column rows of setup.csv asks for 63,000 of each,"
+            " as without it 10,000 and 50,000 may be\n",
+            self.out,
+        )
 
 
 class Fitted(GmnsTest):
@@ -339,12 +444,16 @@ class Fitted(GmnsTest):
         self.assertIn("merged,c,", (self.folder / "case" / "changes.csv").read_text())
 
     def test_five_arms(self) -> None:
-        self.net("link_id,from_node_id,to_node_id,length,lanes,free_speed,capacity,directed\n"
-                 + "".join(f"r{number},{number},0,900,1,50,900,0\n" for number in range(1, 6)),
-                 demand="o_zone_id,d_zone_id,volume\n1,5,10\n")
+        self.net(
+            "link_id,from_node_id,to_node_id,length,lanes,free_speed,capacity,directed\n"
+            + "".join(f"r{number},{number},0,900,1,50,900,0\n" for number in range(1, 6)),
+            demand="o_zone_id,d_zone_id,volume\n1,5,10\n",
+        )
         err = self.refused()
-        self.assertIn("cannot be carried: node 0: 5 links lead out of it, and at most 4 may: r1_r, r2_r, r3_r, r4_r,"
-                      " r5_r\n", err)
+        self.assertIn(
+            "cannot be carried: node 0: 5 links lead out of it, and at most 4 may: r1_r, r2_r, r3_r, r4_r, r5_r\n",
+            err,
+        )
         self.assertIn("--fit STEP", err)
         self.assertEqual(len(self.made("--fit", "5s").links), 12)
 
@@ -352,26 +461,33 @@ class Fitted(GmnsTest):
         """A corridor of 1,499 links, with demand from its first node to its last ones."""
         rows = "".join(f"l{number},{number},{number + 1},1000,1,60,900\n" for number in range(1, 1500))
         demand = "".join(f"1,{1501 - end},10\n" for end in range(1, ends + 1))
-        self.net("link_id,from_node_id,to_node_id,length,lanes,free_speed,capacity\n" + rows,
-                 demand="o_zone_id,d_zone_id,volume\n" + demand)
+        self.net(
+            "link_id,from_node_id,to_node_id,length,lanes,free_speed,capacity\n" + rows,
+            demand="o_zone_id,d_zone_id,volume\n" + demand,
+        )
 
     def test_cells_that_are_asked_for(self) -> None:
         # a corridor of L links has 18*L + 5 cells a slot and 6*L + 4 beside: 26,987 * 3,600 + 8,998, and of 2,000 slots
         # 53,982,998
         self.corridor(1)
-        told = ("97,162,198 cells, so the column cells of setup.csv asks for 98,000,000, as without it 54,000,000 may"
-                " be: "
-                "about 107 MB for a load and 195 MB for a session, at most 195 and 292")
+        told = (
+            "97,162,198 cells, so the column cells of setup.csv asks for 98,000,000, as without it 54,000,000 may"
+            " be: "
+            "about 107 MB for a load and 195 MB for a session, at most 195 and 292"
+        )
         status, out, _ = self.make("--step", "2s", "--horizon", "120")
         self.assertEqual((status, out.splitlines()[-1]), (0, told))
-        self.assertEqual((self.folder / "case" / "setup.csv").read_text(),
-                         "step_ms,slots,origin_capacity,cells\n2000,3600,32,98000000\n")
+        self.assertEqual(
+            (self.folder / "case" / "setup.csv").read_text(),
+            "step_ms,slots,origin_capacity,cells\n2000,3600,32,98000000\n",
+        )
         case = Case.read(self.folder / "case")
         self.assertEqual((case.cells(), case.setup.most_cells), (97_162_198, 98_000_000))
         out = self.make("--step", "3600ms", "--horizon", "120")[1]
         self.assertEqual(out.splitlines()[-1], "53,982,998 cells of at most 54,000,000")
-        self.assertEqual((self.folder / "case" / "setup.csv").read_text(),
-                         "step_ms,slots,origin_capacity\n3600,2000,32\n")
+        self.assertEqual(
+            (self.folder / "case" / "setup.csv").read_text(), "step_ms,slots,origin_capacity\n3600,2000,32\n"
+        )
 
     def test_steps_tell_the_cells_of_each(self) -> None:
         # 26,987 a slot and 8,998 beside; slots are told where these are too many
@@ -387,11 +503,16 @@ class Fitted(GmnsTest):
         # limits 2,998: 584,739 a slot
         self.corridor(32)
         err = self.refused("--step", "2s", "--horizon", "300")
-        self.assertIn(f"{584_739 * 9000 + 287_936:,} cells, and at most 4,294,967,295 may be: --horizon 244 at this"
-                      f" step or --fit 2500 at this horizon"
-                      " or --destinations 26 at both", err)
-        self.assertIn("4,280,577,416 cells, so the column cells of setup.csv asks for 4,281,000,000",
-                      self.make("--step", "2s", "--horizon", "244")[1])
+        self.assertIn(
+            f"{584_739 * 9000 + 287_936:,} cells, and at most 4,294,967,295 may be: --horizon 244 at this"
+            f" step or --fit 2500 at this horizon"
+            " or --destinations 26 at both",
+            err,
+        )
+        self.assertIn(
+            "4,280,577,416 cells, so the column cells of setup.csv asks for 4,281,000,000",
+            self.make("--step", "2s", "--horizon", "244")[1],
+        )
 
 
 class InTime(GmnsTest):
@@ -400,13 +521,16 @@ class InTime(GmnsTest):
         profile = self.folder / "profile.csv"
         profile.write_text("from,to,share\n7:00,7:15,1\n7:15,7:30,1\n7:30,7:45,1\n")
         rows = self.made("--profile", str(profile), "--step", "30s").demand
-        self.assertEqual([(row.from_slot, row.to_slot, row.units) for row in rows],
-                         [(0, 30, 3334), (30, 60, 3333), (60, 90, 3333)])
+        self.assertEqual(
+            [(row.from_slot, row.to_slot, row.units) for row in rows], [(0, 30, 3334), (30, 60, 3333), (60, 90, 3333)]
+        )
 
     def test_a_period_longer_than_the_horizon(self) -> None:
         self.net(PLAIN, demand="o_zone_id,d_zone_id,volume\n1,3,10\n")
-        self.assertIn("the demand's period of 60 minutes is longer than the horizon of 30; give --horizon 60 or more",
-                      self.refused("--horizon", "30"))
+        self.assertIn(
+            "the demand's period of 60 minutes is longer than the horizon of 30; give --horizon 60 or more",
+            self.refused("--horizon", "30"),
+        )
 
 
 if __name__ == "__main__":

@@ -2,7 +2,7 @@
 stand twice."""
 import unittest
 
-from test_from_gmns import PLAIN, GmnsTest
+from support_gmns import PLAIN, GmnsTest
 
 from ltm_tools.network.lengths import metres
 
@@ -15,11 +15,15 @@ class Sides(GmnsTest):
         return {link.name: (link.tail, link.head, link.free_kmh, link.jam_per_km) for link in self.made(*words).links}
 
     def test_a_field_for_each_direction(self) -> None:
-        self.net("link_id,a_node,b_node,direction,distance,speed_ab,speed_ba,lanes_ab,lanes_ba,capacity_ab,"
-                 "capacity_ba\n"
-                 "1,A,B,0,900,50,40,1,2,900,800\n2,B,C,1,900,60,,1,,900,\n3,C,A,-1,900,,30,,1,,700\n")
-        self.assertEqual(self.ends(), {"1": ("A", "B", 50, 150), "1_r": ("B", "A", 40, 300), "2": ("B", "C", 60, 150),
-                                       "3": ("A", "C", 30, 150)})
+        self.net(
+            "link_id,a_node,b_node,direction,distance,speed_ab,speed_ba,lanes_ab,lanes_ba,capacity_ab,"
+            "capacity_ba\n"
+            "1,A,B,0,900,50,40,1,2,900,800\n2,B,C,1,900,60,,1,,900,\n3,C,A,-1,900,,30,,1,,700\n"
+        )
+        self.assertEqual(
+            self.ends(),
+            {"1": ("A", "B", 50, 150), "1_r": ("B", "A", 40, 300), "2": ("B", "C", 60, 150), "3": ("A", "C", 30, 150)},
+        )
 
     def test_without_a_direction_the_fields_that_are_filled_say_it(self) -> None:
         self.net("ID,ANode,BNode,Length,AB_Lanes,BA_Lanes,AB_Speed,BA_Speed\n1,A,B,900,1,1,50,50\n2,B,C,900,,2,,60\n")
@@ -27,8 +31,10 @@ class Sides(GmnsTest):
 
     def test_a_way_that_is_drawn_backwards(self) -> None:
         self.net("link_id,from,to,length,oneway,maxspeed\na,1,2,900,-1,50\nb,2,3,900,yes,50\nc,3,4,900,no,50\n")
-        self.assertEqual({name: ends[:2] for name, ends in self.ends().items()},
-                         {"a": ("2", "1"), "b": ("2", "3"), "c": ("3", "4"), "c_r": ("4", "3")})
+        self.assertEqual(
+            {name: ends[:2] for name, ends in self.ends().items()},
+            {"a": ("2", "1"), "b": ("2", "3"), "c": ("3", "4"), "c_r": ("4", "3")},
+        )
 
 
 class Fields(GmnsTest):
@@ -39,16 +45,18 @@ class Fields(GmnsTest):
     def test_of_several_numbers_the_least_counts(self) -> None:
         self.net(LINK + "\na,1,2,900,\"['3', '2']\",50;70,900\n")
         self.assertEqual(self.links(), {"a": (900, 50, 300)})
-        self.assertIn("1 links have several lanes, of which the least counts\n", self.make()[1])
+        self.assertIn("1 link has several lanes, of which the least counts\n", self.make()[1])
 
     def test_a_length_of_0_is_that_of_its_places_else_1_m(self) -> None:
         self.net(LINK + "\na,1,2,0.001,1,60,900\nb,2,3,1000,1,60,900\n", demand=DEMAND + "1,3,1\n")
         self.assertIn("link a: 1 m at 60 and 7 km/h allow a step of at most 60 ms", self.refused())
         status, out, _ = self.make("--fit", "5s")
         self.assertEqual(status, 0)
-        self.assertIn("1 links are shorter than 1 m and get 1 m\n", out)
-        self.net(LINK + "\na,1,2,0,1,60,900\nb,2,3,1000,1,60,900\n",
-                 "node_id,x_coord,y_coord\n1,1000,1000\n2,1300,1400\n3,1300,2400\n")
+        self.assertIn("1 link is shorter than 1 m and gets 1 m\n", out)
+        self.net(
+            LINK + "\na,1,2,0,1,60,900\nb,2,3,1000,1,60,900\n",
+            "node_id,x_coord,y_coord\n1,1000,1000\n2,1300,1400\n3,1300,2400\n",
+        )
         self.assertEqual(self.links()["a"][0], 500)
 
     def test_places_that_are_none(self) -> None:
@@ -66,13 +74,14 @@ class Fields(GmnsTest):
 
     def test_a_unit_that_is_not_known(self) -> None:
         self.net(PLAIN, config="long_length,speed\nfurlong,mph\n")
-        self.assertIn("config.csv: long_length is 'furlong', a unit that is not known; give --length-unit",
-                      self.refused())
+        self.assertIn(
+            "config.csv: long_length is 'furlong', a unit that is not known; give --length-unit", self.refused()
+        )
         self.assertEqual(self.links("--length-unit", "m")["a"], (1000, 97, 150))
 
     def test_nothing_to_drive_on_is_told_with_why(self) -> None:
         self.net(LINK + "\na,1,2,900,1,50,0\n")
-        self.assertIn("no link that cars may use; 1 links have no lanes or no capacity", self.refused())
+        self.assertIn("no link that cars may use; 1 link has no lanes or no capacity", self.refused())
 
     def test_nodes_of_another_network(self) -> None:
         self.net(PLAIN, "node_id,zone_id\nn1,1\nn2,2\n")
@@ -117,15 +126,21 @@ class Tables(GmnsTest):
     def test_names_of_fields(self) -> None:
         self.net(PLAIN, self.NODES, "o,d,car,truck\n7,9,5,1\n")
         self.assertIn("no field volume in the header; call one of car, truck volume", self.refused())
-        for header in ("from_zone_id,to_zone_id,vol", "orig_taz,dest_taz,flow", "Origin_ID,Destination_ID,weight",
-                       "O,D,Ton", "i,j,v"):
+        for header in (
+            "from_zone_id,to_zone_id,vol",
+            "orig_taz,dest_taz,flow",
+            "Origin_ID,Destination_ID,weight",
+            "O,D,Ton",
+            "i,j,v",
+        ):
             self.assertEqual(self.rows(header + "\n7,9,5\n"), [("1", "3", 5000)], header)
 
     def test_zones_that_were_written_as_decimals_and_a_matrix_with_letters(self) -> None:
         self.assertEqual(self.rows(DEMAND + "7.0,9.0,5\n"), [("1", "3", 5000)])
         self.assertEqual(self.rows("zone,7.0,9.0\n7.0,0,5\n"), [("1", "3", 5000)])
-        self.assertEqual(self.rows("zone,North,South\nNorth,0,5\n", "node_id,zone_id\n1,North\n3,South\n"),
-                         [("1", "3", 5000)])
+        self.assertEqual(
+            self.rows("zone,North,South\nNorth,0,5\n", "node_id,zone_id\n1,North\n3,South\n"), [("1", "3", 5000)]
+        )
 
     def test_rows_of_several_times_are_added_and_it_is_told(self) -> None:
         self.assertEqual(self.rows("o_zone_id,d_zone_id,time_period,volume\n7,9,AM,5\n7,9,PM,4\n"), [("1", "3", 9000)])
@@ -140,8 +155,15 @@ class Tables(GmnsTest):
 
 class ManyArms(GmnsTest):
     def test_a_step_to_which_nothing_fits_is_told_beside_the_others(self) -> None:
-        self.net(LINK + "".join(f"\n{word}{arm},{ends},900,1,50,900" for arm in range(40)
-                                for word, ends in (("i", f"a{arm},c"), ("o", f"c,a{arm}"))) + "\n")
+        self.net(
+            LINK
+            + "".join(
+                f"\n{word}{arm},{ends},900,1,50,900"
+                for arm in range(40)
+                for word, ends in (("i", f"a{arm},c"), ("o", f"c,a{arm}"))
+            )
+            + "\n"
+        )
         err = self.refused()
         self.assertIn("node c: 40 links lead out of it", err)
         self.assertRegex(err, r"\n  30000 +[0-9]+ ")

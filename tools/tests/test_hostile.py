@@ -14,22 +14,26 @@ import unittest
 from collections.abc import Callable, Iterator
 from pathlib import Path
 from types import FrameType
+from unittest import mock
 
 import commands
-from stage import MAY_MISS, RUNS, Run, set_up
+from stage import MAY_MISS, OF_A_CLONE, RUNS, Run, set_up
 from support import BUILT, FolderTest, TOOLS
-from ltm_tools import libraries
+from ltm_tools import cli, libraries
 
 FAILS, EITHER, AS_BEFORE = "fails", "either", "as before"
 TELLS = ("inspect", "explain")  # say what is wrong with a case, and end well
+VARIES = ("assign", "calibrate", "live")  # print seconds, or an address
+KEPT = "the best so far is kept"  # what a search says that has found something when it is interrupted
 MORE_LINES = ("cannot be carried: ", "line ")  # begin what is told of several things, a line each
 NOISE = bytes((number * number >> 3) % 251 + 1 for number in range(4000))
 
 
 def packed(spoil: Callable[[bytes], bytes]) -> Callable[[str, bytes], bytes]:
     """The same within what is packed."""
-    return lambda name, data: (gzip.compress(spoil(gzip.decompress(data)), mtime=0) if name.endswith(".gz")
-                               else spoil(data))
+    return lambda name, data: (
+        gzip.compress(spoil(gzip.decompress(data)), mtime=0) if name.endswith(".gz") else spoil(data)
+    )
 
 
 def latin_1(data: bytes) -> bytes:
@@ -45,7 +49,7 @@ def twice(data: bytes) -> bytes:
 
 SPOILED: dict[str, tuple[Callable[[str, bytes], bytes], str]] = {
     "empty": (lambda name, data: b"", FAILS),
-    "cut": (lambda name, data: data[:len(data) * 2 // 3], EITHER),
+    "cut": (lambda name, data: data[: len(data) * 2 // 3], EITHER),
     "noise": (lambda name, data: NOISE, FAILS),
     "a mark": (packed(lambda data: b"\xef\xbb\xbf" + data), AS_BEFORE),
     "UTF-16": (lambda name, data: data.decode("latin-1").encode("utf-16"), EITHER),
@@ -70,14 +74,18 @@ def within(folder: Path) -> Iterator[None]:
 
 def everything(folder: Path) -> dict[str, bytes]:
     """What stands below a folder."""
-    return {str(path.relative_to(folder)): path.read_bytes() if path.is_file() else b"a folder"
-            for path in sorted(folder.rglob("*"))}
+    return {
+        str(path.relative_to(folder)): path.read_bytes() if path.is_file() else b"a folder"
+        for path in sorted(folder.rglob("*"))
+    }
 
 
 def missing(run: Run) -> list[str]:
     """What a command needs and is not there."""
-    return [*libraries.missing([name for name in run.needs if name != "program"]),
-            *(["the program ltm"] if "program" in run.needs and not os.access(BUILT, os.X_OK) else [])]
+    return [
+        *libraries.missing([name for name in run.needs if name != "program"]),
+        *(["the program ltm"] if "program" in run.needs and not os.access(BUILT, os.X_OK) else []),
+    ]
 
 
 class Hostile(FolderTest):
@@ -88,6 +96,9 @@ class Hostile(FolderTest):
         set_up(self.folder)
         self.kept = everything(self.folder)
         self.runs = [run for run in RUNS if not missing(run)]
+        ended = mock.patch("ltm_tools.live.opening.open_browser", lambda *_: signal.raise_signal(signal.SIGINT))
+        ended.start()
+        self.addCleanup(ended.stop)
 
     def restore(self) -> None:
         """The folder as it was."""
@@ -104,8 +115,11 @@ class Hostile(FolderTest):
 
     def written(self, run: Run) -> dict[str, bytes]:
         """What a command has written."""
-        return {name: data for name, data in everything(self.folder).items()
-                if name in run.writes or name.split("/")[0] in run.writes}
+        return {
+            name: data
+            for name, data in everything(self.folder).items()
+            if name in run.writes or name.split("/")[0] in run.writes
+        }
 
     def changed(self) -> set[str]:
         """The names of what is not as it was."""
@@ -132,14 +146,24 @@ class Hostile(FolderTest):
         return status
 
 
+class Table(unittest.TestCase):
+    def test_each_command_has_a_row(self) -> None:
+        typed = {name.replace("_", "-") for name in cli.COMMANDS}
+        self.assertEqual({run.words.split()[0] for run in RUNS} | {*OF_A_CLONE}, typed)
+
+
 class Files(Hostile):
     def setUp(self) -> None:
         super().setUp()
         self.good: dict[str, tuple[str, dict[str, bytes]]] = {}
         for run in self.runs:
             self.assertEqual(self.end_of(run, "as it is"), 0, run.words)
-            self.good[run.words] = self.out, self.written(run)
+            self.good[run.words] = self.printed(run), self.written(run)
             self.restore()
+
+    def printed(self, run: Run) -> str:
+        """What a command has printed, as far as that is the same on every run."""
+        return "" if run.words.startswith(VARIES) else self.out
 
     def spoil(self, run: Run, name: str, what: str, change: Callable[[Path], object], ends: str) -> None:
         """Runs a command with a file that is spoiled, and sees how it ends."""
@@ -148,7 +172,8 @@ class Files(Hostile):
         if ends != EITHER and not run.words.startswith(TELLS):
             self.assertEqual(status == 0, ends != FAILS, f"{run.words}: {name}, {what}: {status}")
         if ends == AS_BEFORE:
-            self.assertEqual((self.out, self.written(run)), self.good[run.words], f"{run.words}: {name}, {what}")
+            made = self.printed(run), self.written(run)
+            self.assertEqual(made, self.good[run.words], f"{run.words}: {name}, {what}")
         self.restore()
 
     def test_files_that_are_not_there_or_folders(self) -> None:
@@ -161,20 +186,37 @@ class Files(Hostile):
         for run in self.runs:
             for name in run.reads:
                 for what, (change, ends) in SPOILED.items():
-                    self.spoil(run, name, what, lambda path: path.write_bytes(change(name, path.read_bytes())),
-                               EITHER if name.endswith(".jsonl") and ends == FAILS else ends)
+                    self.spoil(
+                        run,
+                        name,
+                        what,
+                        lambda path: path.write_bytes(change(name, path.read_bytes())),
+                        EITHER if name.endswith(".jsonl") and ends == FAILS else ends,
+                    )
 
 
 class Large(Hostile):
     """A hundred megabytes, where a small file is meant."""
 
-    SPARSE = ("case/links.csv", "case/curves.csv", "case/nodes.csv", "case/source_links.csv", "case/clock.txt",
-              "net/link.csv", "town.net.xml", "cars.rou.xml", "table.csv", "greens.csv", "d3.min.js")
+    SPARSE = (
+        "case/links.csv",
+        "case/curves.csv",
+        "case/nodes.csv",
+        "case/source_links.csv",
+        "case/clock.txt",
+        "net/link.csv",
+        "town.net.xml",
+        "cars.rou.xml",
+        "table.csv",
+        "greens.csv",
+        "d3.min.js",
+    )
 
     def test_zeros(self) -> None:
         for name in self.SPARSE:
-            run = next(run for run in self.runs if name in run.reads and not run.needs
-                       and not run.words.startswith(TELLS))
+            run = next(
+                run for run in self.runs if name in run.reads and not run.needs and not run.words.startswith(TELLS)
+            )
             for size in (0, 100_000_000):
                 os.truncate(self.folder / name, size)
             began = time.process_time()
@@ -230,7 +272,7 @@ class Interrupts(Hostile):
 
     def test_each_command(self) -> None:
         for run in self.runs:
-            if "matplotlib" in run.needs:
+            if {"matplotlib", "tornado"} & {*run.needs}:  # `test_live` has interrupts of a server
                 continue
             calls = self.interrupted(run, sys.maxsize)
             for part in range(self.PARTS):
@@ -253,19 +295,20 @@ class Interrupts(Hostile):
 
         program, status, told = ["--program", str(BUILT)] if "program" in run.needs else [], 130, ""
         lost: list[object] = []  # an interrupt where Python itself takes a generator apart, which goes no further
-        hook = sys.unraisablehook
+        hook, self.out = sys.unraisablehook, ""
         with within(self.folder):
             try:
                 sys.unraisablehook = lost.append
                 sys.setprofile(profile)
-                status, _, told = commands.run(*shlex.split(run.words), *program)
+                status, self.out, told = commands.run(*shlex.split(run.words), *program)
             except KeyboardInterrupt:  # before or after the command itself
                 pass
             finally:
                 sys.setprofile(None)
                 sys.unraisablehook = hook
         self.assertNotIn("Traceback", told, run.words)
-        self.assertEqual(status, 0 if number > count or lost else 130, f"{run.words} {number}")
+        ends_well = number > count or lost or KEPT in self.out
+        self.assertEqual(status, 0 if ends_well else 130, f"{run.words} {number}")
         self.assertLessEqual(self.changed(), {*self.written(run)}, f"{run.words} {number}")
         self.restore()
         return count
@@ -282,9 +325,16 @@ class TwoAtOnce(Hostile):
             self.assertEqual(self.end_of(run, "alone"), 0)
             alone = self.written(run)
             self.restore()
-            both = [subprocess.Popen([sys.executable, TOOLS / "ltm-tools", *shlex.split(run.words), *program],
-                                     cwd=self.folder, stdout=subprocess.DEVNULL, stderr=subprocess.PIPE, text=True)
-                    for _ in range(2)]
+            both = [
+                subprocess.Popen(
+                    [sys.executable, TOOLS / "ltm-tools", *shlex.split(run.words), *program],
+                    cwd=self.folder,
+                    stdout=subprocess.DEVNULL,
+                    stderr=subprocess.PIPE,
+                    text=True,
+                )
+                for _ in range(2)
+            ]
             ends = [(one.communicate()[1], one.returncode) for one in both]
             for err, status in ends:
                 self.assertTrue(status == 0 or status == 1 and err.count("\n") == 1 and "Traceback" not in err, ends)

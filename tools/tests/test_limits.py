@@ -28,13 +28,20 @@ class Limits(FolderTest):
 
     def test_one_that_differs(self) -> None:
         self.change(limits.FORMATS, "MOST_LINKS_ASKED = 16_000", "MOST_LINKS_ASKED = 32_000")
-        line = next(number for number, text in enumerate((self.folder / limits.FORMATS).read_text().splitlines(), 1)
-                    if "LINKS_ASKED" in text)
-        self.assertEqual(limits.faults(self.folder), [f"most_links is 16000 in {limits.BOUNDS}, and 32000 in"
-                                                      f" {limits.FORMATS} line {line}"])
+        line = next(
+            number
+            for number, text in enumerate((self.folder / limits.FORMATS).read_text().splitlines(), 1)
+            if "LINKS_ASKED" in text
+        )
+        self.assertEqual(
+            limits.faults(self.folder),
+            [f"most_links is 16000 in {limits.BOUNDS}, and 32000 in {limits.FORMATS} line {line}"],
+        )
         self.change("crates/ltm_session/src/script.rt", "LONGEST_LINE: u32 = 65_536", "LONGEST_LINE: u32 = 65_537")
-        self.assertIn(f"longest_line is 65537 in crates/ltm_session/src/script.rt, and 65536 in {limits.FORMATS} line",
-                      "\n".join(limits.faults(self.folder)))
+        self.assertIn(
+            f"longest_line is 65537 in crates/ltm_session/src/script.rt, and 65536 in {limits.FORMATS} line",
+            "\n".join(limits.faults(self.folder)),
+        )
 
     def test_what_follows_from_one(self) -> None:
         self.change(limits.BOUNDS, "most_nodes = 32000", "most_nodes = 32001")
@@ -42,25 +49,37 @@ class Limits(FolderTest):
         self.assertIn("  most_nodes, which is 2 * most_links", limits.told_of(CLONE, "most_links"))
 
     def test_what_is_not_listed(self) -> None:
-        self.change(limits.BOUNDS, "most_links = 16000",
-                    "most_links = 16000\n\nabbrev pub most_lanes : N\nmost_lanes = 9")
-        self.change("crates/ltm_scenario/src/batch.rt", "const MOST_EDITS",
-                    "const MOST_SHIFTS: u8 = 7;\nconst MOST_EDITS")
+        self.change(
+            limits.BOUNDS, "most_links = 16000", "most_links = 16000\n\nabbrev pub most_lanes : N\nmost_lanes = 9"
+        )
+        self.change(
+            "crates/ltm_scenario/src/batch.rt", "const MOST_EDITS", "const MOST_SHIFTS: u8 = 7;\nconst MOST_EDITS"
+        )
         self.change(limits.FORMATS, "MOST_WORKERS =", "MOST_TURNS = 12\nMOST_WORKERS =")
-        self.assertEqual(limits.faults(self.folder), [f"{one} is no limit that tools/limits lists: give it a line there"
-                                                      for one in
-                         (f"{limits.BOUNDS}: most_lanes", "crates/ltm_scenario/src/batch.rt: MOST_SHIFTS",
-                          f"{limits.FORMATS}: MOST_TURNS")])
+        self.assertEqual(
+            limits.faults(self.folder),
+            [
+                f"{one} is no limit that tools/limits lists: give it a line there"
+                for one in (
+                    f"{limits.BOUNDS}: most_lanes",
+                    "crates/ltm_scenario/src/batch.rt: MOST_SHIFTS",
+                    f"{limits.FORMATS}: MOST_TURNS",
+                )
+            ],
+        )
 
     def test_a_place_that_is_gone(self) -> None:
         self.change("docs/FORMATS.md", "A script has at most", "A script may have")
-        self.assertRaisesRegex(limits.Fault, "docs/FORMATS.md: no such place: A script has at most #", limits.faults,
-                               self.folder)
+        self.assertRaisesRegex(
+            limits.Fault, "docs/FORMATS.md: no such place: A script has at most #", limits.faults, self.folder
+        )
 
     def test_what_is_told(self) -> None:
         told = limits.told_of(CLONE, "longest_file")
-        self.assertEqual(told[:2], ["longest_file is 16,777,216",
-                                    f"  {limits.BOUNDS} line {limits.bounds(CLONE)['longest_file'].line}"])
+        self.assertEqual(
+            told[:2],
+            ["longest_file is 16,777,216", f"  {limits.BOUNDS} line {limits.bounds(CLONE)['longest_file'].line}"],
+        )
         self.assertIn("  crates/ltm_casefile/src/fetch.rt", told)
         self.assertRaisesRegex(limits.Fault, "there is no limit most_lanes", limits.told_of, CLONE, "most_lanes")
         self.assertEqual(len(limits.table(CLONE)), 1 + len(limits.rooms(CLONE)))

@@ -12,9 +12,11 @@ import zipfile
 from pathlib import Path
 
 from made_live import Client, LiveTest, needs_live
-from support import BUILT, CLONE, needs_splits
+from support import BUILT, CLONE, needs_program
 from ltm_tools.errors import Fault
 from ltm_tools.formats import told_time, told_units
+from ltm_tools.live.kept import add_change
+from ltm_tools.live.scenario import Scenario
 
 SHUT = {"kind": "close", "link": "north_east", "from": 60, "to": 90}
 OF_EACH_KIND = [
@@ -29,7 +31,7 @@ OF_EACH_KIND = [
 
 
 @needs_live
-@needs_splits
+@needs_program
 class Shown(LiveTest):
     async def check(self, client: Client) -> None:
         """That what is shown is what the program tells of the kept case, and of the kept script."""
@@ -43,8 +45,10 @@ class Shown(LiveTest):
         self.assertEqual([int(number) for number in frame[links : 2 * links]], standing)
         self.assertEqual(client.costs["now"]["totals"], [told_time(delays[0][at]) for at in (3, 5, 7)])
         self.assertEqual(client.costs["there"][1], sum(told_units(loaded[0][at]) for at in (7, 9)))
-        self.assertEqual(client.costs["now"]["links"], [[told_time(words[5]), told_units(words[7]), int(words[9])]
-                                                        for words in delays[1:] if words[0] == "link"])
+        self.assertEqual(
+            client.costs["now"]["links"],
+            [[told_time(words[5]), told_units(words[7]), int(words[9])] for words in delays[1:] if words[0] == "link"],
+        )
         script = await self.kept("script.jsonl")
         last = run(self.where, "session", "0", script=script + b'{"do":"settle"}\n{"do":"delay"}\n')[-1].split()
         self.assertEqual([told_time(last[at]) for at in (3, 5, 7)], client.costs["now"]["totals"])
@@ -57,9 +61,14 @@ class Shown(LiveTest):
         for told in OF_EACH_KIND:
             self.assertEqual(await client.change({"edit": told}), "")
             await self.check(client)
-        self.assertEqual([entry["text"] for entry in client.list][3:6],
-                         ["south_east green 30 s of 75 s, 7:01:40 to 7:06:40", "west_south at 45 km/h, the whole time",
-                          "demand of west at 150 %, 7:05 to 7:10"])
+        self.assertEqual(
+            [entry["text"] for entry in client.list][3:6],
+            [
+                "south_east green 30 s of 75 s, 7:01:40 to 7:06:40",
+                "west_south at 45 km/h, the whole time",
+                "demand of west at 150 %, 7:05 to 7:10",
+            ],
+        )
         self.assertNotEqual(await client.see(75), before)
         for number in (4, 1, 7, 2, 6, 3, 5):
             self.assertEqual(await client.change({"undo": number}), "")
@@ -73,25 +82,49 @@ class Shown(LiveTest):
         self.assertEqual(await client.change({"edit": SHUT}), "")
         asked = [{"do": "state", "slot": slot} for slot in (0, 59, 75, 90, 120)]
         lines = [json.dumps(one).encode() for one in asked]
-        told = run(self.where, "session", "0", script=b"\n".join([
-            *lines, json.dumps({"do": "edit", "edits": [{"kind": "limit", "link": "north_east", "from": 60, "to": 90,
-                                                         "vehicles": "0"}]}).encode(),
-            b'{"do":"settle"}', *lines, b'{"do":"curve","link":"west_north"}', b'{"do":"departures","node":"west"}']))
+        told = run(
+            self.where,
+            "session",
+            "0",
+            script=b"\n".join(
+                [
+                    *lines,
+                    json.dumps(
+                        {
+                            "do": "edit",
+                            "edits": [{"kind": "limit", "link": "north_east", "from": 60, "to": 90, "vehicles": "0"}],
+                        }
+                    ).encode(),
+                    b'{"do":"settle"}',
+                    *lines,
+                    b'{"do":"curve","link":"west_north"}',
+                    b'{"do":"departures","node":"west"}',
+                ]
+            ),
+        )
         links, nodes = 7, 5
         for place, one in enumerate(asked):
             wanted = []
             for line in (told[7 + place], told[place]):
-                _, entered, left, queue, waiting = (list(map(int, part.split()[1:])) for part in (
-                    "in" + line.partition(" in")[2]).replace("out", "\nout").replace("queue", "\nqueue").replace(
-                        "waiting", "\nwaiting").join(("-\n", "")).split("\n"))
+                _, entered, left, queue, waiting = (
+                    list(map(int, part.split()[1:]))
+                    for part in ("in" + line.partition(" in")[2])
+                    .replace("out", "\nout")
+                    .replace("queue", "\nqueue")
+                    .replace("waiting", "\nwaiting")
+                    .join(("-\n", ""))
+                    .split("\n")
+                )
                 self.assertEqual((len(queue), len(waiting)), (links, nodes))
                 wanted += [*queue, *(a - b for a, b in zip(entered, left)), *waiting]
             self.assertEqual(list(await client.see(one["slot"])), wanted)
         for kind, name, line in (("link", "west_north", told[12]), ("node", "west", told[13])):
             await client.send({"pick": {kind: name}})
             await client.until(lambda: client.curve.get("curve") == name)
-            self.assertEqual(" ".join(str(number) for counts in client.curve["now"] for number in counts),
-                             " ".join(word for word in line.split()[4:] if word.isdigit()))
+            self.assertEqual(
+                " ".join(str(number) for counts in client.curve["now"] for number in counts),
+                " ".join(word for word in line.split()[4:] if word.isdigit()),
+            )
 
     async def test_two_browsers(self) -> None:
         """A thousand changes by chance from two browsers at once, with a session that is opened anew as its lines are
@@ -116,6 +149,57 @@ class Shown(LiveTest):
             await self.check_both(one, other)
         self.assertGreater(self.scenario.revision, 10)
 
+    async def test_each_undoes_its_own(self) -> None:
+        """Two windows: each undoes and redoes what it changed itself, in that order; one that was loaded again is the
+        same window, and what another has removed meanwhile is passed by in words."""
+        await self.start()
+        one, other = await self.client(window="w1"), await self.client()
+        before = await one.see(75)
+        await one.change({"edit": SHUT})
+        await other.change({"edit": OF_EACH_KIND[1]})
+        await one.change({"switch": one.list[0]["id"], "on": False})
+        both = [entry["text"] for entry in one.list]
+        self.assertEqual(await one.change({"back": True}), "")
+        self.assertEqual([(entry["text"], entry["on"]) for entry in one.list], [(text, True) for text in both])
+        one = await self.client(window="w1")
+        self.assertEqual((one.list[0]["by"], one.hello["you"]), ("browser 1", "browser 1"))
+        await one.change({"back": True})
+        self.assertEqual([entry["text"] for entry in other.list], both[1:])
+        self.assertIn("nothing to undo", await one.change({"back": True}))
+        await one.change({"again": True})
+        self.assertEqual([entry["text"] for entry in other.list], both)
+        await other.change({"undo": other.list[0]["id"]})
+        self.assertIn("removed already", await one.change({"back": True}))
+        await other.change({"back": True})
+        self.assertEqual([entry["text"] for entry in other.list], both)
+        await other.change({"back": True})
+        await other.change({"undo": other.list[0]["id"]})
+        self.assertEqual(await one.see(75), before)
+        for why in ("removed already", "nothing to redo"):  # the switch that was undone first, and then nothing
+            self.assertIn(why, await one.change({"again": True}))
+
+    async def test_scenarios_that_are_kept(self) -> None:
+        """At most five, each by a name, with the costs that were told of it; a list that is shown again is the same."""
+        await self.start()
+        client = await self.client()
+        await client.change({"edit": SHUT})
+        costs, frame = client.costs, await client.see(80)
+        for name in "ABCDEFA":
+            await client.send({"keep": name})
+        await client.until(lambda: len(client.all("scenes")) == 7 and client.all("refused"))
+        (*_, last) = client.all("scenes")
+        self.assertEqual([(one["name"], one["costs"] == costs) for one in last], [(name, True) for name in "ABCDE"])
+        for told, why in (({"keep": "F"}, "At most 5"), ({"keep": ""}, "1 to 40"), ({"keep": ["A"]}, "1 to 40")):
+            count = len(client.all("refused"))
+            await client.send(told)
+            await client.until(lambda: len(client.all("refused")) > count)
+            self.assertIn(why, client.all("refused")[-1])
+        await client.change({"undo": client.list[0]["id"]})
+        self.assertIn("No scenario", await client.change({"recall": "G"}))
+        self.assertEqual(await client.change({"recall": "B"}), "")
+        self.assertEqual((client.costs, await client.see(80)), (costs, frame))
+        await self.check(client)
+
     async def check_both(self, one: Client, other: Client) -> None:
         for client in (one, other):
             await client.until(client.idle)
@@ -132,13 +216,14 @@ class Shown(LiveTest):
             await client.change({"edit": {**SHUT, "from": first, "to": end}})
         self.assertEqual([entry["covered"] for entry in client.list], [True, False, False])
         await client.change({"switch": client.list[2]["id"], "on": False})
-        self.assertEqual([(entry["covered"], entry["on"]) for entry in client.list],
-                         [(False, True), (False, True), (False, False)])
+        self.assertEqual(
+            [(entry["covered"], entry["on"]) for entry in client.list], [(False, True), (False, True), (False, False)]
+        )
         await self.check(client)
 
 
 @needs_live
-@needs_splits
+@needs_program
 class NothingIsLost(LiveTest):
     async def test_each_change_is_on_disk_before_it_is_shown(self) -> None:
         script = self.folder / "changes.jsonl"
@@ -159,8 +244,9 @@ class NothingIsLost(LiveTest):
         await self.end()
         await self.start(script.name)
         client = await self.client()
-        self.assertEqual([(entry["text"], entry["on"]) for entry in client.list],
-                         [(entry["text"], entry["on"]) for entry in shown])
+        self.assertEqual(
+            [(entry["text"], entry["on"]) for entry in client.list], [(entry["text"], entry["on"]) for entry in shown]
+        )
         self.assertEqual(await client.see(80), frame)
         await client.change({"undo": client.list[0]["id"]})
         self.assertNotIn(mine, script.read_bytes())
@@ -176,12 +262,15 @@ class NothingIsLost(LiveTest):
     async def test_a_script_that_is_refused(self) -> None:
         """The first line that the program would refuse is told; others, whatever they are, stand in the file."""
         limit = '{"kind":"limit","link":"%s","from":0,"to":9,"vehicles":"1"}'
-        for line, why in ((f'{{"do":"edit","edits":[{limit % "no"}]}}', "refused edit 1 UnknownName.*no link no"),
-                          ('{"do":"edit","edits":[1]}', "NotCommand 1"), ('{"do":"edit","edits":[]}', "NotCommand 0"),
-                          ('{"do":"edit","edits":[1],"change":{}}', "NotCommand 1"),
-                          ('{"do":"totals","change":{"on":false,"edits":5}}', "NotCommand 0"),
-                          ('{"do":"edit","edits":[1],"change":{"kind":["close"]}}', "one of close"),
-                          ('{"do":"edit","edits":[{"kind":"horizon","slots":900}]}', "setup.csv")):
+        for line, why in (
+            (f'{{"do":"edit","edits":[{limit % "no"}]}}', "refused edit 1 UnknownName.*no link no"),
+            ('{"do":"edit","edits":[1]}', "NotCommand 1"),
+            ('{"do":"edit","edits":[]}', "NotCommand 0"),
+            ('{"do":"edit","edits":[1],"change":{}}', "NotCommand 1"),
+            ('{"do":"totals","change":{"on":false,"edits":5}}', "NotCommand 0"),
+            ('{"do":"edit","edits":[1],"change":{"kind":["close"]}}', "one of close"),
+            ('{"do":"edit","edits":[{"kind":"horizon","slots":900}]}', "setup.csv"),
+        ):
             (self.folder / "wrong.jsonl").write_text(f"\n\x00\u00e9\n{line}\n")
             with self.assertRaisesRegex(Fault, f"wrong.jsonl, line 3: .*{why}", msg=line):
                 await self.start("wrong.jsonl")
@@ -205,7 +294,8 @@ class NothingIsLost(LiveTest):
         self.assertEqual(await client.see(80), frame)
 
     async def test_a_change_that_ends_the_program_twice(self) -> None:
-        program = self.program(f"""
+        program = self.program(
+            f"""
 import subprocess
 real = subprocess.Popen([{str(BUILT)!r}, *sys.argv[1:]], stdin=subprocess.PIPE, stdout=sys.stdout)
 for line in sys.stdin:
@@ -216,15 +306,18 @@ for line in sys.stdin:
     real.stdin.flush()
 real.stdin.close()
 real.wait()
-""")
+"""
+        )
         await self.start(program=program)
         client = await self.client()
         await client.change({"edit": SHUT})
-        self.assertEqual(await client.change({"edit": {**SHUT, "from": 10, "to": 77}}),
-                         "the program ended at it twice")
+        told = await client.change({"edit": {**SHUT, "from": 10, "to": 77}})
+        self.assertEqual(told, "The program ended twice at this change, which was not made.")
         await client.change({"edit": {**SHUT, "from": 10, "to": 78}})
-        self.assertEqual([entry["text"] for entry in client.list], ["north_east closed, 7:10 to 7:15",
-                                                                    "north_east closed, 7:01:40 to 7:13"])
+        self.assertEqual(
+            [entry["text"] for entry in client.list],
+            ["north_east closed, 7:10 to 7:15", "north_east closed, 7:01:40 to 7:13"],
+        )
 
     async def test_the_files_change(self) -> None:
         await self.start()
@@ -237,15 +330,29 @@ real.wait()
         self.assertIn("have changed since it was opened", client.all("notice")[-1])
 
 
+@needs_program
+class Lines(unittest.TestCase):
+    def test_the_words_of_an_entry(self) -> None:
+        """Those that its line has, else those of its first edit."""
+        line = [{"kind": "limit", "link": "north_east", "from": 0, "to": 9, "vehicles": "0"}] * 2
+        with Scenario(CLONE / "examples" / "closures", BUILT) as scenario:
+            self.assertEqual(add_change(scenario, {"text": "Works"}, line[:1], []).text, "Works")
+            self.assertEqual(add_change(scenario, {"by": "me"}, line, []).text, "limit north_east and 1 more")
+
+
 @needs_live
 class Command(LiveTest):
     def live(self, *words: str) -> "subprocess.Popen[str]":
-        process = subprocess.Popen([sys.executable, str(CLONE / "tools" / "ltm-tools"), "live", *words],
-                                   stdout=subprocess.PIPE, stderr=subprocess.PIPE, text=True)
+        process = subprocess.Popen(
+            [sys.executable, str(CLONE / "tools" / "ltm-tools"), "live", *words],
+            stdout=subprocess.PIPE,
+            stderr=subprocess.PIPE,
+            text=True,
+        )
         self.addCleanup(process.kill)
         return process
 
-    @needs_splits
+    @needs_program
     def test_it_ends_with_its_program(self) -> None:
         process = self.live(str(self.where), "--program", str(BUILT), "--no-open")
         assert process.stdout is not None
@@ -261,8 +368,14 @@ class Command(LiveTest):
         program = self.program('for line in sys.stdin:\n    print("refused command NotCommand 0", flush=True)')
         process = self.live(str(self.where), "--program", str(program), "--no-open")
         _, told = process.communicate(timeout=60)
-        self.assertEqual((process.returncode, told), (1, "ltm-tools live: the program's sessions do not answer `state`,"
-                                                         " `curve` and `delays`: a newer ltm is needed\n"))
+        self.assertEqual(
+            (process.returncode, told),
+            (
+                1,
+                "ltm-tools live: the program's sessions do not answer `state`,"
+                " `curve` and `delays`: a newer ltm is needed\n",
+            ),
+        )
 
     def test_a_port_that_is_taken(self) -> None:
         import socket
@@ -274,14 +387,19 @@ class Command(LiveTest):
             if os.access(BUILT, os.X_OK):
                 process = self.live(str(self.where), "--program", str(BUILT), "--no-open", "--port", str(port))
                 _, told = process.communicate(timeout=60)
-                self.assertEqual((process.returncode, told),
-                                 (1, f"ltm-tools live: port {port} of 127.0.0.1: Address already in use\n"))
+                self.assertEqual(
+                    (process.returncode, told),
+                    (1, f"ltm-tools live: port {port} of 127.0.0.1: Address already in use\n"),
+                )
 
 
 def run(folder: Path, *words: str, script: bytes = b"") -> list[str]:
     """The lines that the program writes."""
-    return subprocess.run([BUILT, *words], cwd=folder, input=script, stdout=subprocess.PIPE,
-                          check=True).stdout.decode().splitlines()
+    return (
+        subprocess.run([BUILT, *words], cwd=folder, input=script, stdout=subprocess.PIPE, check=True)
+        .stdout.decode()
+        .splitlines()
+    )
 
 
 if __name__ == "__main__":

@@ -7,25 +7,14 @@ import zipfile
 from unittest import mock
 
 from made_live import Client, LiveTest, needs_live
-from support import BUILT, needs_splits
-from test_assign import LINKS, SIGNALS, needs_numpy
-from ltm_tools.case import Case, edits
-from ltm_tools.loading.session import Session
+from support import BUILT, needs_numpy, needs_program
+from support_live import ALL, OPEN, ROADS
+from ltm_tools.case import Case
+from ltm_tools.live.entries import Effect
+from ltm_tools.scenario import edits
+from ltm_tools.scenario.session import Session
 
-# Two vehicles in five seconds from o to d for ten minutes, all by `fast`, which takes 40 s and lets a vehicle out every
-# two seconds; by m it takes 100 s, and of m there is no split row. In the second five minutes `fast` is shut.
-# nobody hears of it: the 120 who set out then wait until it is open; the n-th of them sets out 2.5 n after minute 5 and
-#                     arrives 2 n and 40 s after minute 10, so that together they take 120 x 340 - 120 x 120 / 4
-# all:                they go by m
-ROADS = {"setup": "step_ms,slots,origin_capacity,signals\n1000,1200,32,1\n",
-         "links": LINKS + "fast,o,d,400,36,18,300\nslow,o,m,500,36,18,300\n"
-                           "on,m,d,500,36,18,300\n",
-         "demand": "origin,destination,from_slot,to_slot,vehicles\no,d,0,600,240\n",
-         "splits": "node,destination,from_slot,weights\no,d,0,fast=1\n",
-         "signals": SIGNALS + "fast,0,1200,0.5\n"}
-OPEN = 240 * 40
 NOBODY = 120 * 40 + 120 * 340 - 120 * 120 // 4
-ALL = 120 * 40 + 120 * 100
 SHUT = {"kind": "close", "link": "fast", "from": 300, "to": 600}
 BY_M = edits.splits("m", "d", [(0, {"on": 1})])
 SLOWER = {"kind": "speed", "link": "slow", "kmh": 30}
@@ -33,7 +22,7 @@ SLOWER = {"kind": "speed", "link": "slow", "kmh": 30}
 
 @needs_numpy
 @needs_live
-@needs_splits
+@needs_program
 class WhoHears(LiveTest):
     def setUp(self) -> None:
         super().setUp()
@@ -60,18 +49,25 @@ class WhoHears(LiveTest):
         await client.change({"undo": client.list[0]["id"]})
         self.assertEqual(await client.change({"edit": {**SHUT, "informed": 100}, "at": 3}), "")
         self.assertEqual((self.seconds(client), await self.kept_seconds()), (ALL, ALL))
-        self.assertEqual([(told["rounds"], told["most"], told["at"]) for told in client.told if "seeking" in told],
-                         [(rounds, 8, 3) for rounds in (0, *range(8))])
-        self.assertEqual([entry["text"] for entry in client.list], ["fast closed, 7:05 to 7:10, all hear of it"])
+        self.assertEqual(
+            [(told["rounds"], told["most"], told["at"]) for told in client.told if "seeking" in told],
+            [(rounds, 8, 3) for rounds in (0, *range(8))],
+        )
+        self.assertEqual(
+            [entry["text"] for entry in client.list], ["fast closed, 7:05 to 7:10, all of the drivers informed"]
+        )
+        # by m all take 100 s whether the road is closed or not, so that the closure itself changes nothing
+        effect = [OPEN * 10**6, ALL * 10**6, ALL * 10**6]
+        self.assertEqual(client.list[0]["effect"], effect)
         after = await client.see(700)
         await client.change({"switch": client.list[0]["id"], "on": False})
         self.assertEqual((self.seconds(client), await client.see(700)), (OPEN, before))
         await self.end()
         await self.start("changes.jsonl")
         client = await self.client()
-        self.assertEqual([(entry["text"][-14:], entry["on"]) for entry in client.list], [("all hear of it", False)])
+        self.assertEqual([(entry["text"][-14:], entry["on"]) for entry in client.list], [("ivers informed", False)])
         await client.change({"switch": client.list[0]["id"], "on": True})
-        self.assertEqual(await client.see(700), after)
+        self.assertEqual((await client.see(700), client.list[0]["effect"]), (after, effect))
         await self.end()
         await self.start("changes.jsonl")
         client = await self.client()
@@ -91,9 +87,10 @@ class WhoHears(LiveTest):
             go.wait(60)
             assert callable(done)
             done(1)
-            return [BY_M, edits.splits("o", "d", [(0, {"fast": 1}), (300, {"slow": 1})])]
+            told = (BY_M, edits.splits("o", "d", [(0, {"fast": 1}), (300, {"slow": 1})]))
+            return [edits.edit_of(edit) for edit in told], Effect(1, 2, 3)
 
-        with mock.patch("ltm_tools.live.hearing.edits_for", sought):
+        with mock.patch("ltm_tools.live.hearing.sought", sought):
             await one.send({"edit": {**SHUT, "informed": 50}, "at": 1})
             await other.until(lambda: other.idle() or self.desk.tasks)
             await other.send({"edit": {**SHUT, "link": "slow"}})
@@ -102,7 +99,7 @@ class WhoHears(LiveTest):
             await one.until(lambda: len(one.list) == 3)
             self.assertEqual([entry["text"][:11] for entry in one.list], ["slow at 30 ", "fast closed", "slow closed"])
             go.clear()
-            for told, why in (({"undo": one.list[0]["id"]}, "an earlier change"), ({"stop": 2}, "stopped")):
+            for told, why in (({"undo": one.list[0]["id"]}, "An earlier change"), ({"stop": 2}, "Stopped")):
                 await one.send({"edit": {**SHUT, "informed": 50}, "at": 2})
                 await one.until(lambda: self.desk.tasks)
                 await one.send(told)
@@ -120,21 +117,41 @@ class WhoHears(LiveTest):
         case.write(self.where)
         await self.start()
         client = await self.client()
-        for informed, told in ((101, "from 0 to 100"), ("all", "from 0 to 100"), (True, "from 0 to 100"),
-                               (50, "no whole number of steps of 7000 ms")):
+        for informed, told in (
+            (101, "from 0 to 100"),
+            ("all", "from 0 to 100"),
+            (True, "from 0 to 100"),
+            (50, "no whole number of steps of 7000 ms"),
+        ):
             self.assertIn(told, await client.change({"edit": {**SHUT, "informed": informed}}))
         with mock.patch("ltm_tools.live.hearing.missing", lambda names: list(names)):
-            self.assertIn("with python3-numpy, which is not there", await client.change({"edit": {**SHUT,
-                                                                                                  "informed": 50}}))
+            self.assertIn(
+                "with python3-numpy, which is not installed", await client.change({"edit": {**SHUT, "informed": 50}})
+            )
         self.assertEqual(client.list, [])
 
     async def test_a_script_of_others(self) -> None:
         """Lines that say they are more than they are take nothing with them that is no edit."""
-        lines = [json.dumps({"do": "totals", "change": {"batches": 3}}), '{"do":"totals"}',
-                 json.dumps({"do": "totals", "change": {"on": False, "kind": "close", "link": "fast", "from": 300,
-                                                        "to": 600, "informed": 50, "batches": 2}}),
-                 json.dumps({"do": "totals", "change": {"heard": [BY_M, edits.splits("o", "d", [(0, {"slow": 1})])]}}),
-                 '{"do":"delay"}']
+        lines = [
+            json.dumps({"do": "totals", "change": {"batches": 3}}),
+            '{"do":"totals"}',
+            json.dumps(
+                {
+                    "do": "totals",
+                    "change": {
+                        "on": False,
+                        "kind": "close",
+                        "link": "fast",
+                        "from": 300,
+                        "to": 600,
+                        "informed": 50,
+                        "batches": 2,
+                    },
+                }
+            ),
+            json.dumps({"do": "totals", "change": {"heard": [BY_M, edits.splits("o", "d", [(0, {"slow": 1})])]}}),
+            '{"do":"delay"}',
+        ]
         script = self.folder / "changes.jsonl"
         script.write_text("\n".join(lines) + "\n")
         await self.start(script.name)

@@ -37,8 +37,13 @@ class Short(FolderTest):
                 resource.setrlimit(resource.RLIMIT_AS, (left, left))
 
         done = subprocess.run(
-            [BUILT, "session", str(workers)], cwd=self.folder, input=script(), capture_output=True, text=True,
-            timeout=60, preexec_fn=shorten
+            [BUILT, "session", str(workers)],
+            cwd=self.folder,
+            input=script(),
+            capture_output=True,
+            text=True,
+            timeout=60,
+            preexec_fn=shorten,
         )
         return done.returncode, done.stdout.splitlines()
 

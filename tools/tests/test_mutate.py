@@ -26,8 +26,11 @@ class Runs(FolderTest):
 
     def seen(self, name: str, body: object) -> str:
         """What is told of two runs in which the demand is read so."""
-        with (mock.patch.object(demand, "read_amounts", side_effect=body), mock.patch.object(mutate, "RUNS", [TABLE]),
-              mock.patch.object(mutate, "MOST_SECONDS", 0.5)):
+        with (
+            mock.patch.object(demand, "read_amounts", side_effect=body),
+            mock.patch.object(mutate, "RUNS", [TABLE]),
+            mock.patch.object(mutate, "MOST_SECONDS", 0.5),
+        ):
             return "\n".join(bad.why for bad in mutate.mutations(self.folder / name, SEED, 0, 2))
 
     def test_what_does_not_end_well_is_seen(self) -> None:
@@ -39,10 +42,12 @@ class Runs(FolderTest):
             Path("case", f"left{time.monotonic_ns()}").touch()
             raise Fault("it leaves a file")
 
-        for name, body, told in (("error", KeyError("k"), "KeyError: 'k'"),
-                                 ("loop", loop, "it takes more than 0.5 seconds"),
-                                 ("left", leave, "status 1, and it leaves case/left"),
-                                 ("silent", SystemExit(1), "status 1, and 0 lines on the standard error")):
+        for name, body, told in (
+            ("error", KeyError("k"), "KeyError: 'k'"),
+            ("loop", loop, "it takes more than 0.5 seconds"),
+            ("left", leave, "status 1, and it leaves case/left"),
+            ("silent", SystemExit(1), "status 1, and 0 lines on the standard error"),
+        ):
             self.assertEqual(self.seen(name, body).count(told), 2, name)
 
 

@@ -11,14 +11,16 @@ from ltm_tools import cli
 PACKAGE = TOOLS / "ltm_tools"
 # from the lowest: the modules and packages of each line, which import those of lines above alone
 LAYERS = (
-    ("errors",),
+    ("errors", "version"),
     ("formats", "libraries", "program", "replacing"),
     ("files", "listing"),
     ("tables",),
     ("case",),
-    ("network", "loading", "proving"),
-    ("gmns", "sumo", "show", "sweep"),
-    ("assign",),
+    ("demand", "loading", "proving"),
+    ("network", "scenario"),
+    ("gmns", "sumo", "tntp", "show", "sweep"),
+    ("assign", "counting", "timing", "worth"),
+    ("calibrate",),
     ("live",),
     ("commands",),
     ("cli",),
@@ -47,8 +49,13 @@ def imported(path: Path, name: str, modules: set[str]) -> set[str]:
             base = name.split(".")[: -node.level] + (node.module or "").split(".") * (node.module is not None)
             for alias in node.names:
                 whole = ".".join([*base, alias.name])
-                found.add(next(it for it in (whole, f"{whole}.__init__", ".".join(base), ".".join([*base, "__init__"]))
-                               if it in modules))
+                found.add(
+                    next(
+                        it
+                        for it in (whole, f"{whole}.__init__", ".".join(base), ".".join([*base, "__init__"]))
+                        if it in modules
+                    )
+                )
     return found
 
 
@@ -61,8 +68,12 @@ def faults(imports: Imports, layers: tuple[tuple[str, ...], ...]) -> list[str]:
     """A line for each import of a module of the same or a higher layer, each module without a layer, and a circle."""
     level = {name: number for number, names in enumerate(layers) for name in names}
     found = [f"{name} has no layer" for name in imports if unit(name) not in level]
-    found += [f"{name} imports {other}" for name, others in imports.items() for other in sorted(others)
-              if unit(name) != unit(other) and level.get(unit(name), 0) <= level.get(unit(other), 0)]
+    found += [
+        f"{name} imports {other}"
+        for name, others in imports.items()
+        for other in sorted(others)
+        if unit(name) != unit(other) and level.get(unit(name), 0) <= level.get(unit(other), 0)
+    ]
     try:
         TopologicalSorter(imports).prepare()
     except CycleError as circle:
@@ -78,16 +89,29 @@ class Layers(FolderTest):
         self.assertEqual(faults(imports, LAYERS), [])
 
     def made(self, **texts: str) -> list[str]:
-        for name, text in {"low": "", "pack/__init__": "from .one import it", "pack/one": "",
-                           "pack/two": "from . import one", "high": "", **texts}.items():
+        for name, text in {
+            "low": "",
+            "pack/__init__": "from .one import it",
+            "pack/one": "",
+            "pack/two": "from . import one",
+            "high": "",
+            **texts,
+        }.items():
             path = self.folder / f"{name}.py"
             path.parent.mkdir(exist_ok=True)
             path.write_text(text)
         return faults(imports_of(self.folder), (("low",), ("pack",), ("high",)))
 
     def test_what_is_right(self) -> None:
-        self.assertEqual(self.made(**{"pack/one": "from ..low import it",
-                                      "high": "from . import low\nfrom .pack import it\nfrom .pack.two import it"}), [])
+        self.assertEqual(
+            self.made(
+                **{
+                    "pack/one": "from ..low import it",
+                    "high": "from . import low\nfrom .pack import it\nfrom .pack.two import it",
+                }
+            ),
+            [],
+        )
 
     def test_an_import_of_a_higher_layer(self) -> None:
         self.assertEqual(self.made(**{"pack/two": "def late():\n    from ..high import it"}), ["pack.two imports high"])
@@ -121,8 +145,11 @@ def words_of_commands(text: str) -> set[str]:
 
 class Commands(unittest.TestCase):
     def test_commands_alone_know_argparse_and_print(self) -> None:
-        found = {name_of(PACKAGE, path): words for path in PACKAGE.rglob("*.py")
-                 if (words := words_of_commands(path.read_text(encoding="utf-8")))}
+        found = {
+            name_of(PACKAGE, path): words
+            for path in PACKAGE.rglob("*.py")
+            if (words := words_of_commands(path.read_text(encoding="utf-8")))
+        }
         self.assertEqual({name: words for name, words in found.items() if unit(name) not in ("commands", "cli")}, {})
         self.assertEqual(found["cli"], {"argparse", "print"})
 
@@ -135,6 +162,18 @@ class Commands(unittest.TestCase):
             self.assertEqual(module.NAME, name.replace("_", "-"))
         helpers = {path.stem for path in (PACKAGE / "commands").glob("*.py")} - set(cli.COMMANDS)
         self.assertEqual(helpers, {"__init__", "arguments", "imports"})
+
+    def test_no_test_imports_another(self) -> None:
+        """What several tests use stands in a module that has no tests, so that none are run twice."""
+        found = [
+            f"{path.name}:{node.lineno}"
+            for path in sorted((TOOLS / "tests").glob("*.py"))
+            for node in ast.walk(ast.parse(path.read_text(encoding="utf-8")))
+            for name in ([node.module or ""] if isinstance(node, ast.ImportFrom) else [])
+            + ([alias.name for alias in node.names] if isinstance(node, ast.Import) else [])
+            if name.startswith("test_")
+        ]
+        self.assertEqual(found, [])
 
 
 if __name__ == "__main__":

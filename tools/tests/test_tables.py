@@ -27,11 +27,15 @@ class Rows(FolderTest):
 
     def test_surplus_fields(self) -> None:
         text = "a,b,c\n1,2,3\n11,12,1,650\n"
-        self.assertEqual(self.fault(text),
-                         ' line 3: 4 fields, and the header has 3: "650" is surplus, and a field with a separator in it'
-                         ' stands in quotes')
-        self.assertEqual([row.fields for row in self.table(text, True).rows],
-                         [{"a": "1", "b": "2", "c": "3"}, {"a": "11", "b": "12", "c": "1"}])
+        self.assertEqual(
+            self.fault(text),
+            ' line 3: 4 fields, and the header has 3: "650" is surplus, and a field with a separator in it'
+            " stands in quotes",
+        )
+        self.assertEqual(
+            [row.fields for row in self.table(text, True).rows],
+            [{"a": "1", "b": "2", "c": "3"}, {"a": "11", "b": "12", "c": "1"}],
+        )
 
     def test_missing_fields(self) -> None:
         text = "a;b;c\n\n1;2;3\n11;12\n"
@@ -57,20 +61,30 @@ class Rows(FolderTest):
 
     def test_our_own_tables(self) -> None:
         path = self.folder / "nodes.csv"
-        for text, told in (("name,x,y\nn1,1,2,3\n", '4 fields, and the header has 3: "3" is surplus'),
-                           ("name,x,y\n\nn1,1\n", "line 3: 2 fields, and the header has 3: y is missing")):
+        for text, told in (
+            ("name,x,y\nn1,1,2,3\n", '4 fields, and the header has 3: "3" is surplus'),
+            ("name,x,y\n\nn1,1\n", "line 3: 2 fields, and the header has 3: y is missing"),
+        ):
             path.write_text(text)
             with self.assertRaisesRegex(Fault, told):
                 read_table(path, ("name",))
+
+
+class Missing(FolderTest):
+    def test_what_cannot_be_read(self) -> None:
+        self.assertRaisesRegex(Fault, f"^{self.folder}: Is a directory$", read, self.folder)
+        self.assertRaisesRegex(Fault, "no.csv: No such file or directory$", read, self.folder / "no.csv")
 
 
 class Large(FolderTest):
     """The program of a table of twelve megabytes may have no more than 160 MB of memory, of which the Python and its
     modules take some 40."""
 
-    RUN = ("import resource, sys; resource.setrlimit(resource.RLIMIT_AS, (160 << 20, 160 << 20));"
-           " from ltm_tools.network.demand_files import read_amounts;"
-           " print(sum(read_amounts(sys.argv[1]).volumes.values()))")
+    RUN = (
+        "import resource, sys; resource.setrlimit(resource.RLIMIT_AS, (160 << 20, 160 << 20));"
+        " from ltm_tools.demand.matrices import read_amounts;"
+        " print(sum(read_amounts(sys.argv[1]).volumes.values()))"
+    )
 
     def test_a_list_of_many_rows(self) -> None:
         path = self.folder / "table.csv"
@@ -91,8 +105,9 @@ class Commands(FolderTest):
         case = str(self.case())
         net = self.folder / "net"
         net.mkdir()
-        (net / "link.csv").write_text("link_id,from_node_id,to_node_id,length,lanes,free_speed,capacity\n"
-                                      "a,11,12,1000,1,60,900\n")
+        (net / "link.csv").write_text(
+            "link_id,from_node_id,to_node_id,length,lanes,free_speed,capacity\na,11,12,1000,1,60,900\n"
+        )
         demand = "o_zone_id,d_zone_id,volume\n11,12,1,650\n"
         for words, text in (
             (["from-gmns", str(net), str(self.folder / "made"), "--demand"], demand),

@@ -2,6 +2,7 @@
 import importlib.machinery
 import importlib.util
 import io
+import os
 import signal
 import sys
 import time
@@ -32,16 +33,18 @@ def made(**bodies: object) -> type[unittest.TestCase]:
 class Runs(unittest.TestCase):
     def run_all(self, case: type[unittest.TestCase], *words: str) -> tuple[int, str]:
         module = runner()
-        module.LIMITS = tuple((timer, number, 0.3, what) for timer, number, _, what in module.LIMITS)
+        module.LIMITS = tuple((timer, number, 1.0, what) for timer, number, _, what in module.LIMITS)
         tests = unittest.defaultTestLoader.loadTestsFromTestCase(case)
-        with redirect_stdout(io.StringIO()) as told, mock.patch.object(libraries, "missing", return_value=[]), \
-                mock.patch.object(unittest.TestLoader, "loadTestsFromNames", return_value=tests):
+        with redirect_stdout(io.StringIO()) as told, mock.patch.object(
+            libraries, "missing", return_value=[]
+        ), mock.patch.object(unittest.TestLoader, "loadTestsFromNames", return_value=tests):
             status = module.main([*words, "made"])
         self.assertEqual(signal.getitimer(signal.ITIMER_REAL)[0], 0)
         return status, told.getvalue()
 
     def test_what_takes_too_long(self) -> None:
         """An endless loop and an endless wait, also where every fault is caught; what comes behind them is run."""
+
         def loops(_: object) -> None:
             while True:
                 try:
@@ -51,12 +54,25 @@ class Runs(unittest.TestCase):
 
         status, told = self.run_all(made(a_loops=loops, b_waits=lambda _: time.sleep(60), c_is_well=lambda _: None))
         self.assertEqual((status, told.splitlines()[-1]), (1, "1 passed, 2 failed, 0 skipped"))
-        self.assertIn("it takes more than 0.3 seconds of the clock", told)
+        self.assertIn("it takes more than 1 seconds of the clock", told)
+
+    def test_both_limits_at_once(self) -> None:
+        """The second is reached while the first is told: the test has failed, and the next is run."""
+
+        def both(_: object) -> None:
+            limits = (signal.SIGALRM, signal.SIGPROF)
+            signal.pthread_sigmask(signal.SIG_BLOCK, limits)
+            for number in limits:
+                os.kill(os.getpid(), number)
+            signal.pthread_sigmask(signal.SIG_UNBLOCK, limits)
+
+        status, told = self.run_all(made(a_both=both, b_is_well=lambda _: None))
+        self.assertEqual((status, told.splitlines()[-1]), (1, "1 passed, 1 failed, 0 skipped"))
 
     def test_help(self) -> None:
         with redirect_stdout(io.StringIO()) as told:
             self.assertEqual(runner().main(["--help"]), 0)
-        self.assertIn("tools/test [--all] [MODULE ..]", told.getvalue())
+        self.assertIn("tools/test [--all [--without NAMES]] [MODULE ..]", told.getvalue())
 
     def test_what_is_skipped(self) -> None:
         def skips(test: unittest.TestCase) -> None:
@@ -68,6 +84,16 @@ class Runs(unittest.TestCase):
             skipped = f"skipped: test_b_is_skipped ({case.__module__}.Made.test_b_is_skipped): it is not there"
             self.assertEqual((found, told.splitlines()[-2:]), (status, [skipped, "1 passed, 0 failed, 1 skipped"]))
         self.assertEqual(self.run_all(made(a_is_well=lambda _: None), "--all")[0], 0)
+
+    def test_a_package_that_could_not_be_had(self) -> None:
+        """With --all a skip is let pass where its reason names a package behind --without, and not a part of one."""
+
+        def skips(test: unittest.TestCase) -> None:
+            test.skipTest("not installed: sumo-tools")
+
+        case = made(a_is_well=lambda _: None, b_is_skipped=skips)
+        for without, status in (("mypy,sumo-tools", 0), ("sumo", 1), ("tools", 1), ("", 1)):
+            self.assertEqual(self.run_all(case, "--all", "--without", without)[0], status, without)
 
 
 if __name__ == "__main__":

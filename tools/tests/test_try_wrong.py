@@ -28,14 +28,16 @@ class ReadsVerdicts(unittest.TestCase):
     def test_each_kind(self):
         names = ["never_set_is_closed", "slow", "same_as_before", "old_text", "killed", "unheard_of"]
         found = try_wrong.verdicts([Edit("ltm_limits", it) for it in names], SAID.splitlines())
-        self.assertEqual([it.kind for it in found], ["refused", "refused", "NOT REFUSED", "BAD EDIT", "not tried",
-                                                     "not tried"])
+        self.assertEqual(
+            [it.kind for it in found], ["refused", "refused", "NOT REFUSED", "BAD EDIT", "not tried", "not tried"]
+        )
         self.assertEqual(try_wrong.summary(found), "2 refused, 4 not")
 
     def test_line_tells_why_not(self):
         found = try_wrong.read_verdict(SAID.splitlines()[4])
-        self.assertEqual(found.line(),
-                         "ltm_limits/old_text: BAD EDIT: an 'old:' text is in src/limits.rt 0 times, and not once")
+        self.assertEqual(
+            found.line(), "ltm_limits/old_text: BAD EDIT: an 'old:' text is in src/limits.rt 0 times, and not once"
+        )
         self.assertEqual(try_wrong.read_verdict(SAID.splitlines()[1]).line(), "ltm_limits/never_set_is_closed: refused")
 
     def test_same_name_in_another_crate_tells_nothing(self):
@@ -51,10 +53,19 @@ class CopiesTrees(unittest.TestCase):
         room = tempfile.TemporaryDirectory()
         self.addCleanup(room.cleanup)
         self.top, self.scratch = Path(room.name, "top"), Path(room.name, "scratch")
-        for path in ("crates/a/src/lib.rt", "crates/a/out/rlib/big", "crates/a/out/incremental/a", "crates/a/out/a",
-                     "crates/a/wrong/one.edit", "crates/a/must-fail/two.edit",
-                     "crates/b/src/lib.rt", "crates/b/out/rlib/small", "crates/b/out/incremental/b", "crates.txt",
-                     "HANDLES"):
+        for path in (
+            "crates/a/src/lib.rt",
+            "crates/a/out/rlib/big",
+            "crates/a/out/incremental/a",
+            "crates/a/out/a",
+            "crates/a/wrong/one.edit",
+            "crates/a/must-fail/two.edit",
+            "crates/b/src/lib.rt",
+            "crates/b/out/rlib/small",
+            "crates/b/out/incremental/b",
+            "crates.txt",
+            "HANDLES",
+        ):
             file = self.top / path
             file.parent.mkdir(parents=True, exist_ok=True)
             file.write_text(path)
@@ -63,8 +74,9 @@ class CopiesTrees(unittest.TestCase):
         try_wrong.copy_tree(self.top, self.scratch, ["a"])
         self.assertEqual(sorted(it.name for it in self.scratch.glob("crates/a/must-fail/*")), ["one.edit", "two.edit"])
         self.assertEqual((self.scratch / "crates/a/must-fail/one.edit").read_text(), "crates/a/wrong/one.edit")
-        built = sorted(str(it.relative_to(self.scratch)) for it in self.scratch.glob("crates/*/out/**/*")
-                       if it.is_file())
+        built = sorted(
+            str(it.relative_to(self.scratch)) for it in self.scratch.glob("crates/*/out/**/*") if it.is_file()
+        )
         self.assertEqual(built, ["crates/a/out/incremental/a", "crates/a/out/rlib/big", "crates/b/out/rlib/small"])
         self.assertTrue((self.top / "crates/a/wrong/one.edit").exists())
 

@@ -26,16 +26,22 @@ def ring() -> Case:
     nodes, steps = range(NODES), range(1, AHEAD + 1)
     links = [Link(link(k, s), f"n{k}", f"n{(k + s) % NODES}", 20, 36, 18, 150) for k in nodes for s in steps]
     demand = [Demand(f"n{k}", f"n{(k + FAR) % NODES}", 0, SLOTS // 2, SENT) for k in nodes]
-    splits = [Split(f"n{k}", f"n{(k + far) % NODES}", 0, {link(k, s): s for s in steps if s <= far}) for k in nodes
-              for far in range(1, NODES)]
+    splits = [
+        Split(f"n{k}", f"n{(k + far) % NODES}", 0, {link(k, s): s for s in steps if s <= far})
+        for k in nodes
+        for far in range(1, NODES)
+    ]
     return Case(Setup(1000, SLOTS, 1000), links, demand, splits)
 
 
 def script() -> str:
     """Batches that shut links all around the ring and open them again, each settled; two of them settled at once."""
     settle = [{"do": "settle"}, {"do": "totals"}]
-    batches = [{"do": "edit", "edits": [edits.limit(link(k, s), 0, SHUT, vehicles) for k in range(0, NODES, 4)]}
-               for s in range(1, AHEAD + 1) for vehicles in (0, 1000)]
+    batches = [
+        {"do": "edit", "edits": [edits.limit(link(k, s), 0, SHUT, vehicles) for k in range(0, NODES, 4)]}
+        for s in range(1, AHEAD + 1)
+        for vehicles in (0, 1000)
+    ]
     lines = [line for batch in batches for line in (batch, *settle)] + [batches[0], batches[2], *settle]
     return "".join(json.dumps(line) + "\n" for line in lines)
 
@@ -43,8 +49,14 @@ def script() -> str:
 @needs_program
 class Wide(FolderTest):
     def served(self, workers: int) -> list[str]:
-        done = subprocess.run([BUILT, "session", str(workers)], cwd=self.folder, input=script(), capture_output=True,
-                              text=True, timeout=120)
+        done = subprocess.run(
+            [BUILT, "session", str(workers)],
+            cwd=self.folder,
+            input=script(),
+            capture_output=True,
+            text=True,
+            timeout=120,
+        )
         self.assertEqual(done.returncode, 0)
         return done.stdout.splitlines()
 
@@ -65,8 +77,14 @@ class Wide(FolderTest):
         ring().write(self.folder)
         batch, _, totals = script().splitlines(keepends=True)[:3]
         repaired = self.served(0)[2]
-        with subprocess.Popen([BUILT, "session", "2"], cwd=self.folder, stdin=subprocess.PIPE, stdout=subprocess.PIPE,
-                              text=True, bufsize=1) as session:
+        with subprocess.Popen(
+            [BUILT, "session", "2"],
+            cwd=self.folder,
+            stdin=subprocess.PIPE,
+            stdout=subprocess.PIPE,
+            text=True,
+            bufsize=1,
+        ) as session:
             assert session.stdin and session.stdout
             self.addCleanup(session.kill)
             session.stdin.write(batch)

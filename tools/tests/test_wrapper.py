@@ -12,12 +12,12 @@ from collections.abc import Callable
 from pathlib import Path
 from unittest import mock
 
-from support import CLONE, FolderTest, ROAD, TOOLS
+from support import CLONE, ROAD
+from support_clone import COSTS, CRATES, Clone, PROVES, SYSTEM
 from ltm_tools.errors import Fault
-from ltm_tools.proving.plan import Plan, read_costs, read_crates, stands_on
-from ltm_tools.proving.sums import sum_of, sums_of, write_sums
+from ltm_tools.proving.plan import Needs, ProofPlan, read_costs, read_crates, stands_on, tail_of
+from ltm_tools.proving.sums import sum_of
 
-SYSTEM = "/usr/bin:/bin"
 
 # `rt try`: says what it was called with, and answers as the test wants
 ANSWERS = """#!/bin/bash
@@ -25,84 +25,10 @@ printf '%s\\n' "$PWD" "$@" >"$MADE/called"
 cat >"$MADE/stdin"
 {body}
 """
-ENDED = ("echo 'checked: ended status={0}' >&2; echo 'run=ended status={0} runners=1 races=unchecked proved=no' >&2;"
-         " exit {0}")
-
-# `rt` for a proof: crates.txt of the folder says which crates `all check` proves
-PROVES = """#!/bin/bash
-echo "$@ in ${{PWD##*/}}" >>"$MADE/log"
-case $1 in
-    version) echo made-kit ;;
-    all) ls crates | while read -r name; do
-            grep -q "^$name:" crates.txt || exit 1
-            echo "== $name"
-            echo "logic=proved"
-        done || exit 2 ;;
-    lib) echo "logic=proved" ;;
-    run) mkdir -p out; printf '#!/bin/bash\\necho proved program: "$@"\\n' >out/ltm; chmod +x out/ltm; echo a run ;;
-esac
-{body}
-"""
-CRATES = ("# the crates\nltm: ltm_a ltm_b ltm_c ltm_d\n" + "".join(f"ltm_{name}: ltm_low csv\n" for name in "abcd")
-          + "\n# below\nltm_low:\nltm_low_tests: ltm_low\n")
-COSTS = ("| crate | proof | tests | edits | crate | proof | tests | edits |\n|---|---|---|---|---|---|---|---|\n"
-         "| ltm | 120 | 300 | | low | 60 | | |\n" + "".join(f"| {name} | 60 | | 2 (90) | | | | |\n" for name in "abcd"))
-
-
-class Clone(FolderTest):
-    """A clone with a program crate, three below it and one of tests; `rt` stands in a folder of its own."""
-
-    def setUp(self) -> None:
-        super().setUp()
-        self.top, self.made = self.folder / "clone", self.folder / "made"
-        self.top.mkdir()
-        (self.made / "bin").mkdir(parents=True)
-        shutil.copy(CLONE / "ltm", self.top / "ltm")
-        (self.top / "tools").mkdir()
-        shutil.copy(TOOLS / "ltm-tools", self.top / "tools" / "ltm-tools")
-        shutil.copytree(TOOLS / "ltm_tools", self.top / "tools" / "ltm_tools",
-                        ignore=shutil.ignore_patterns("__pycache__"))
-        self.fill()
-        python = self.made / "bin" / "python3"
-        python.write_text(f'#!/bin/sh\nexec "{sys.executable}" "$@"\n')
-        python.chmod(0o755)
-        self.built = self.top / "crates" / "ltm" / "out" / "ltm"
-        self.case()
-
-    def fill(self) -> None:
-        """The texts that are proved."""
-        (self.top / "crates.txt").write_text(CRATES)
-        (self.top / "CONTRIBUTING.md").write_text(COSTS)
-        for crate in ("ltm", "ltm_a", "ltm_b", "ltm_c", "ltm_d", "ltm_low", "ltm_low_tests"):
-            (self.top / "crates" / crate / "src").mkdir(parents=True)
-            (self.top / "crates" / crate / "src" / "lib.rt").write_text(f"// {crate}\n")
-
-    def rt(self, text: str, body: str = "") -> None:
-        path = self.made / "bin" / "rt"
-        path.write_text(text.format(body=body))
-        path.chmod(0o755)
-
-    def build(self, body: str, is_proved: bool = True) -> None:
-        """A program in place of the proved one, with its sums if it is to be one."""
-        self.built.parent.mkdir(exist_ok=True)
-        self.built.write_text(f"#!/bin/bash\n{body}\n")
-        self.built.chmod(0o755)
-        if is_proved:
-            write_sums(self.top, sums_of(self.top, stands_on(read_crates(CRATES))))
-
-    def environment(self) -> dict[str, str]:
-        return {"PATH": f"{self.made / 'bin'}:{SYSTEM}", "MADE": str(self.made), "HOME": str(self.made)}
-
-    def run_ltm(self, *words: str, script: str = "", **variables: str) -> "subprocess.CompletedProcess[str]":
-        return subprocess.run([str(self.top / "ltm"), *words], cwd=self.folder, env={**self.environment(), **variables},
-                              input=script, capture_output=True, text=True, timeout=60)
-
-    def version(self) -> str:
-        """What `--version` says of the proof."""
-        return self.run_ltm("--version").stdout.split("; ")[1]
-
-    def called(self) -> list[str]:
-        return (self.made / "called").read_text().splitlines()
+ENDED = (
+    "echo 'checked: ended status={0}' >&2; echo 'run=ended status={0} runners=1 races=unchecked proved=no' >&2;"
+    " exit {0}"
+)
 
 
 class NotProved(Clone):
@@ -121,15 +47,19 @@ class NotProved(Clone):
         self.assertIn("the program is not proved yet", first)
         self.assertIn("index out of range", first + second)
         self.assertIn("./ltm --prove", second)
-        data = [word for file in ("setup", "links", "demand", "splits")
-                for word in ("--data", f"{file}.csv={self.folder / 'case' / file}.csv")]
+        data = [
+            word
+            for file in ("setup", "links", "demand", "splits")
+            for word in ("--data", f"{file}.csv={self.folder / 'case' / file}.csv")
+        ]
         self.assertEqual(self.called(), [str(self.top / "crates" / "ltm"), "try", *data, "--", "load"])
 
     def test_the_script_is_handed_on_whole(self) -> None:
         self.rt(ANSWERS, 'cat "$MADE/stdin";' + ENDED.format(0))
         done = self.run_ltm("case", "session", "0", script='{"do": "totals"}\n{"do": "link", "link": "a", "slot": 1}')
-        self.assertEqual((done.returncode, done.stdout),
-                         (0, '{"do": "totals"}\n{"do": "link", "link": "a", "slot": 1}'))
+        self.assertEqual(
+            (done.returncode, done.stdout), (0, '{"do": "totals"}\n{"do": "link", "link": "a", "slot": 1}')
+        )
         self.assertIn("the whole script is read before it is answered", done.stderr)
         self.assertIn("ltm: line 2 of the script: passed over: slot\n", done.stderr)
 
@@ -141,8 +71,11 @@ class NotProved(Clone):
         self.assertIn("ltm: links.csv, line 1: the header is to be exactly link,from,to", done.stderr)
 
     def test_rt_fails(self) -> None:
-        for body in ("echo half of an output; echo '    | half of an output' >&2; echo 'run=no-answer proved=no' >&2;"
-                     " exit 6", "echo half; exit 2", "echo half; kill -9 $$"):
+        for body in (
+            "echo half of an output; echo '    | half of an output' >&2; echo 'run=no-answer proved=no' >&2; exit 6",
+            "echo half; exit 2",
+            "echo half; kill -9 $$",
+        ):
             self.rt(ANSWERS, body)
             done = self.run_ltm("case", "curves")
             self.assertEqual((done.returncode, done.stdout), (1, ""), body)
@@ -180,8 +113,9 @@ class Proved(Clone):
         self.rt(ANSWERS, "exit 1")
         self.build('pwd; echo "$@"; cat')
         done = self.run_ltm("case", "session", "4", script="a line\n")
-        self.assertEqual((done.returncode, done.stdout, done.stderr),
-                         (0, f"{self.folder / 'case'}\nsession 4\na line\n", ""))
+        self.assertEqual(
+            (done.returncode, done.stdout, done.stderr), (0, f"{self.folder / 'case'}\nsession 4\na line\n", "")
+        )
         self.assertFalse((self.made / "called").exists())
 
     def test_it_asks_for_large_pages(self) -> None:
@@ -192,8 +126,14 @@ class Proved(Clone):
 
     def test_line_by_line(self) -> None:
         self.build("while read -r line; do echo answer to $line; done")
-        with subprocess.Popen([self.top / "ltm", "case", "session", "0"], cwd=self.folder, env=self.environment(),
-                              stdin=subprocess.PIPE, stdout=subprocess.PIPE, text=True) as session:
+        with subprocess.Popen(
+            [self.top / "ltm", "case", "session", "0"],
+            cwd=self.folder,
+            env=self.environment(),
+            stdin=subprocess.PIPE,
+            stdout=subprocess.PIPE,
+            text=True,
+        ) as session:
             for line in ("one", "two"):
                 print(line, file=session.stdin, flush=True)
                 self.assertEqual(session.stdout.readline(), f"answer to {line}\n")
@@ -212,34 +152,63 @@ class Proved(Clone):
 
     def test_a_script_in_a_file(self) -> None:
         self.build("cat >/dev/null")
-        (self.folder / "script").write_text('{"do": "edit", "edits": [{"kind": "limit", "link": "a", "from": 0, "to":'
-                                            ' 1, "vehicles": 0}]}\n')
+        (self.folder / "script").write_text(
+            '{"do": "edit", "edits": [{"kind": "limit", "link": "a", "from": 0, "to": 1, "vehicles": 0}]}\n'
+        )
         with open(self.folder / "script", "rb") as script:
-            done = subprocess.run([self.top / "ltm", "case", "session", "0"], cwd=self.folder, env=self.environment(),
-                                  stdin=script, capture_output=True, text=True)
-        self.assertIn('ltm: line 1 of the script, edit 1: the member vehicles is 0, and a text with vehicles',
-                      done.stderr)
+            done = subprocess.run(
+                [self.top / "ltm", "case", "session", "0"],
+                cwd=self.folder,
+                env=self.environment(),
+                stdin=script,
+                capture_output=True,
+                text=True,
+            )
+        self.assertIn(
+            "ltm: line 1 of the script, edit 1: the member vehicles is 0, and a text with vehicles", done.stderr
+        )
         self.assertIn('0 as the text "0"', done.stderr)
 
     def test_an_output_whose_reader_has_gone(self) -> None:
         self.build("trap '' PIPE; for i in {1..20000}; do echo a line of output || exit 5; done 2>/dev/null")
-        done = subprocess.run(["bash", "-c", "set -o pipefail; clone/ltm case load | head -n 1"], cwd=self.folder,
-                              env=self.environment(), capture_output=True, text=True, timeout=60)
+        done = subprocess.run(
+            ["bash", "-c", "set -o pipefail; clone/ltm case load | head -n 1"],
+            cwd=self.folder,
+            env=self.environment(),
+            capture_output=True,
+            text=True,
+            timeout=60,
+        )
         self.assertEqual((done.returncode, done.stdout, done.stderr), (5, "a line of output\n", ""))
-        done = subprocess.run(["bash", "-c", "clone/ltm case load >/dev/full"], cwd=self.folder, env=self.environment(),
-                              capture_output=True, text=True, timeout=60)
+        done = subprocess.run(
+            ["bash", "-c", "clone/ltm case load >/dev/full"],
+            cwd=self.folder,
+            env=self.environment(),
+            capture_output=True,
+            text=True,
+            timeout=60,
+        )
         self.assertEqual(done.returncode, 5)
         self.assertIn("ltm: the output failed", done.stderr)
 
     def test_what_is_told(self) -> None:
         self.rt(PROVES)
         self.build("exit 0")
-        self.assertRegex(self.run_ltm("--version").stdout, r"^ltm, commit .*; proved; made-kit\n$")
         told = self.run_ltm("--help").stdout
-        for word in ("load", "curves", "check", "routes", "session N", "view V", "editors K", "try START NODES",
-                     "--prove", "--install DIR", "docs/FORMATS.md"):
+        for word in (
+            "load",
+            "curves",
+            "check",
+            "routes",
+            "session N",
+            "view V",
+            "editors K",
+            "try START NODES",
+            "--prove",
+            "--install DIR",
+            "docs/FORMATS.md",
+        ):
             self.assertIn(word, told)
-
 
     def test_the_program_that_a_variable_names(self) -> None:
         """It answers in place of the proved one, and where there is none."""
@@ -248,12 +217,15 @@ class Proved(Clone):
         for name in (str(named), named.name):
             done = self.run_ltm("case", "load", LTM=name)
             self.assertEqual((done.returncode, done.stdout, done.stderr), (0, "named load\n", ""))
-        self.assertIn(f"LTM names {named}, which answers in its place",
-                      self.run_ltm("--version", LTM=str(named)).stdout)
+        self.assertIn(
+            f"LTM names {named}, which answers in its place", self.run_ltm("--version", LTM=str(named)).stdout
+        )
         self.assertEqual(self.run_ltm("case", "load", LTM=str(self.folder)).returncode, 1)
         done = self.run_ltm("case", "load", LTM="nowhere")
-        self.assertEqual((done.returncode, done.stderr),
-                         (1, "ltm: the variable LTM names nowhere, which is no program that can be run\n"))
+        self.assertEqual(
+            (done.returncode, done.stderr),
+            (1, "ltm: the variable LTM names nowhere, which is no program that can be run\n"),
+        )
         self.build("echo proved")
         self.assertEqual(self.run_ltm("case", "load", LTM="").stdout, "proved\n")
         self.assertRegex(self.run_ltm("--version", LTM=str(self.built)).stdout, "; proved; ")
@@ -272,8 +244,13 @@ class Proved(Clone):
         """Lines are counted from the first that the session has read."""
         self.build("cat >/dev/null")
         (self.folder / "script").write_text('none\n{"do": "totals"}\n{"do": "none"}\n')
-        done = subprocess.run(["bash", "-c", "{ read -r line; clone/ltm case session 0; } <script"], cwd=self.folder,
-                              env=self.environment(), capture_output=True, text=True)
+        done = subprocess.run(
+            ["bash", "-c", "{ read -r line; clone/ltm case session 0; } <script"],
+            cwd=self.folder,
+            env=self.environment(),
+            capture_output=True,
+            text=True,
+        )
         self.assertNotIn("line 1 of the script", done.stderr)
         self.assertIn("ltm: line 2 of the script: ", done.stderr)
         self.assertNotIn("line 3 of the script", done.stderr)
@@ -284,15 +261,20 @@ class Surroundings(Clone):
         self.build("pwd")
         (self.made / "case").mkdir()
         for cdpath in (str(self.folder), str(self.made), f"{self.made}:{self.folder}:."):
-            done = subprocess.run(["clone/ltm", "case", "load"], cwd=self.folder,
-                                  env={**self.environment(), "CDPATH": cdpath}, capture_output=True, text=True)
+            done = subprocess.run(
+                ["clone/ltm", "case", "load"],
+                cwd=self.folder,
+                env={**self.environment(), "CDPATH": cdpath},
+                capture_output=True,
+                text=True,
+            )
             self.assertEqual((done.returncode, done.stdout, done.stderr), (0, f"{self.folder / 'case'}\n", ""))
 
     def test_folders_that_end_in_a_newline(self) -> None:
         self.build("cat setup.csv; pwd")
         (self.folder / "case").rename(self.folder / "case\n")
         self.top = self.top.rename(self.folder / "clone\n")
-        done = self.run_ltm("case\n", "load")
+        done = self.run_ltm("case\n", "delay")
         self.assertEqual((done.returncode, done.stderr), (0, ""))
         self.assertEqual(done.stdout, f"{ROAD['setup']}{self.folder}/case\n\n")
 
@@ -302,20 +284,30 @@ class Surroundings(Clone):
         for is_built in (False, True):
             if is_built:
                 self.build(body)
-            for words, number in ((["load"], signal.SIGTERM), (["check"], signal.SIGHUP),
-                                  (["session", "0"], signal.SIGKILL)):
+            for words, number in (
+                (["load"], signal.SIGTERM),
+                (["check"], signal.SIGHUP),
+                (["session", "0"], signal.SIGKILL),
+            ):
                 with self.subTest(is_built=is_built, words=words):
                     self.end_by(number, words)
-        self.assertEqual([path for path in self.made.iterdir() if path.name.startswith("tmp.")
-                          and not path.name.endswith("killed")], [])
+        self.assertEqual(
+            [path for path in self.made.iterdir() if path.name.startswith("tmp.") and not path.name.endswith("killed")],
+            [],
+        )
 
     def end_by(self, number: signal.Signals, words: list[str]) -> None:
         """Runs the wrapper, ends it by a signal, and sees that what it had started ends too."""
         noted = self.made / "pid"
         noted.unlink(missing_ok=True)
-        with subprocess.Popen([self.top / "ltm", "case", *words], cwd=self.folder, env=self.environment(),
-                              stdin=subprocess.DEVNULL, stderr=subprocess.DEVNULL,
-                              preexec_fn=functools.partial(signal.signal, signal.SIGHUP, signal.SIG_DFL)) as wrapper:
+        with subprocess.Popen(
+            [self.top / "ltm", "case", *words],
+            cwd=self.folder,
+            env=self.environment(),
+            stdin=subprocess.DEVNULL,
+            stderr=subprocess.DEVNULL,
+            preexec_fn=functools.partial(signal.signal, signal.SIGHUP, signal.SIG_DFL),
+        ) as wrapper:
             soon(lambda: noted.exists() and noted.read_text().endswith("\n"))
             wrapper.send_signal(number)
         self.assertNotEqual(wrapper.returncode, 0)
@@ -359,20 +351,32 @@ class Proofs(Clone):
     def test_what_is_not_as_it_was_proved(self) -> None:
         lib = self.text("ltm_a")
         for what, reason in (
-            (lambda: self.change(lib, "// ltm_b\n"),
-             "a source has changed since the program was proved: crates/ltm_a/src/lib.rt"),
+            (
+                lambda: self.change(lib, "// ltm_b\n"),
+                "a source has changed since the program was proved: crates/ltm_a/src/lib.rt",
+            ),
             (lambda: os.utime(self.text("ltm_c"), (0, 0)), "proved"),
             (lambda: self.text("ltm_low_tests").unlink(), "proved"),
-            (lambda: self.text("ltm_low").unlink(),
-             "a source is gone since the program was proved: crates/ltm_low/src/lib.rt"),
-            (lambda: lib.with_name("more.rt").write_text(""),
-             "a source is new since the program was proved: crates/ltm_a/src/more.rt"),
-            (lambda: self.change(self.top / "crates.txt", CRATES + "# more\n"),
-             "a source has changed since the program was proved: crates.txt"),
-            (lambda: (self.top / "HANDLES").write_text("Handles allowed: none.\n"),
-             "a source is new since the program was proved: HANDLES"),
-            (lambda: self.change(self.built, "#!/bin/bash\necho another\n"),
-             "the program that is there is not the one that was proved"),
+            (
+                lambda: self.text("ltm_low").unlink(),
+                "a source is gone since the program was proved: crates/ltm_low/src/lib.rt",
+            ),
+            (
+                lambda: lib.with_name("more.rt").write_text(""),
+                "a source is new since the program was proved: crates/ltm_a/src/more.rt",
+            ),
+            (
+                lambda: self.change(self.top / "crates.txt", CRATES + "# more\n"),
+                "a source has changed since the program was proved: crates.txt",
+            ),
+            (
+                lambda: (self.top / "HANDLES").write_text("Handles allowed: none.\n"),
+                "a source is new since the program was proved: HANDLES",
+            ),
+            (
+                lambda: self.change(self.built, "#!/bin/bash\necho another\n"),
+                "the program that is there is not the one that was proved",
+            ),
             (lambda: self.built.with_name("ltm.sums").unlink(), "the program that is there is not known to be proved"),
             (lambda: self.built.chmod(0o644), "the program is not proved yet"),
         ):
@@ -394,6 +398,26 @@ class Proofs(Clone):
         self.assertEqual(self.version(), "proved")
         self.change(self.text("ltm_a"), "// ltm_b\n")
         self.assertNotEqual(self.version(), "proved")
+
+    def test_sources_behind_a_link(self) -> None:
+        """A source that lies behind a link is seen to change as any other is."""
+        (self.top / "crates").rename(self.folder / "elsewhere")
+        (self.top / "crates").symlink_to(self.folder / "elsewhere")
+        self.build("echo proved")
+        time.sleep(2.1)
+        self.assertEqual([self.version(), self.version()], ["proved", "proved"])
+        self.change(self.text("ltm_a"), "// ltm_b\n")
+        self.assertNotEqual(self.version(), "proved")
+
+    def test_the_kit_that_proved(self) -> None:
+        """`--version` names the kit that proved the program, not the one that is on the path now."""
+        self.rt(PROVES)
+        with mock.patch.dict(os.environ, {"PATH": f"{self.made / 'bin'}:{SYSTEM}", "MADE": str(self.made)}):
+            self.build("exit 0")
+        self.rt(PROVES.replace("made-kit", "newer-kit"))
+        self.assertRegex(self.run_ltm("--version").stdout, r"^ltm \d+\.\d+\.\d+, commit .*; proved; made-kit\n$")
+        self.built.with_name("ltm.sums").unlink()
+        self.assertRegex(self.run_ltm("--version").stdout, r"; the program .*; newer-kit\n$")
 
     def test_what_has_changed_just_now_is_not_kept(self) -> None:
         """Something is touched before it is looked how all stands."""
@@ -420,8 +444,11 @@ class Proofs(Clone):
         self.assertEqual(self.run_ltm("case", "load").stdout, "run\n")
 
     def test_a_text_that_was_touched_since(self) -> None:
-        for what in (lambda: self.change(self.text("ltm_a"), "// ltm_b\n"), lambda: self.text("ltm_a").unlink(),
-                     lambda: shutil.rmtree(self.text("ltm_a").parent)):
+        for what in (
+            lambda: self.change(self.text("ltm_a"), "// ltm_b\n"),
+            lambda: self.text("ltm_a").unlink(),
+            lambda: shutil.rmtree(self.text("ltm_a").parent),
+        ):
             shutil.rmtree(self.top / "crates")
             self.fill()
             self.build("echo run", is_proved=False)
@@ -432,8 +459,10 @@ class Proofs(Clone):
 
     def test_a_program_that_the_gate_has_built(self) -> None:
         """`rt ci` makes all `out` folders anew, and at last runs the program and leaves what it wrote."""
-        def gate(wrote: str, before: Callable[[], object] = lambda: None,
-                 after: Callable[[], object] = lambda: None) -> str:
+
+        def gate(
+            wrote: str, before: Callable[[], object] = lambda: None, after: Callable[[], object] = lambda: None
+        ) -> str:
             shutil.rmtree(self.top / "crates")
             self.fill()
             (self.top / "crates" / "ltm" / "stdout").write_text("as is wanted\n")
@@ -453,8 +482,10 @@ class Proofs(Clone):
         self.assertEqual(gate("another\n"), unknown)
         self.assertEqual(gate("as is wanted\n", before=lambda: self.change(self.text("ltm_a"), "// ltm_b\n")), unknown)
         self.assertEqual(gate("as is wanted\n", after=lambda: self.change(self.text("ltm_a"), "// ltm_b\n")), unknown)
-        self.assertEqual(gate("as is wanted\n", after=lambda: (time.sleep(0.02),
-                                                               self.build("echo another", is_proved=False))), unknown)
+        self.assertEqual(
+            gate("as is wanted\n", after=lambda: (time.sleep(0.02), self.build("echo another", is_proved=False))),
+            unknown,
+        )
 
 
 class Installing(Clone):
@@ -472,8 +503,12 @@ class Installing(Clone):
     def test_install(self) -> None:
         self.assertEqual(self.install().returncode, 0)
         self.assertEqual(self.answer(), "installed: load\n")
-        done = subprocess.run([self.into / "ltm-tools", "inspect", self.folder / "case"], env=self.environment(),
-                              capture_output=True, text=True)
+        done = subprocess.run(
+            [self.into / "ltm-tools", "inspect", self.folder / "case"],
+            env=self.environment(),
+            capture_output=True,
+            text=True,
+        )
         self.assertIn("network     1 link, 2 nodes, 1 destination", done.stdout)
         self.assertEqual(sorted(path.name for path in self.into.iterdir()), ["ltm", "ltm-tools", "ltm_tools"])
 
@@ -500,23 +535,34 @@ class Installing(Clone):
         link = self.folder / "link"
         link.symlink_to(self.top)
         before = everything(self.top)
-        for into in (self.top, self.top / "tools", self.top / "bin", self.top / "crates" / "ltm" / "out", link,
-                     link / "tools"):
+        for into in (
+            self.top,
+            self.top / "tools",
+            self.top / "bin",
+            self.top / "crates" / "ltm" / "out",
+            link,
+            link / "tools",
+        ):
             done = self.install(into)
             self.assertEqual(done.returncode, 1, into)
             self.assertIn("lies in the clone itself", done.stderr)
-        done = subprocess.run(["./ltm", "--install", "."], cwd=self.top, env=self.environment(), capture_output=True,
-                              text=True)
-        self.assertEqual((done.returncode, done.stderr),
-                         (1,
-                          "ltm-tools install: . lies in the clone itself, which stays as it is: name a folder outside"
-                          " of it\n"))
+        done = subprocess.run(
+            ["./ltm", "--install", "."], cwd=self.top, env=self.environment(), capture_output=True, text=True
+        )
+        self.assertEqual(
+            (done.returncode, done.stderr),
+            (
+                1,
+                "ltm-tools install: . lies in the clone itself, which stays as it is: name a folder outside of it\n",
+            ),
+        )
         self.assertIn("a folder is wanted", self.run_ltm("--install", "").stderr)
         self.assertEqual(everything(self.top), before)
         # outside of the clone this folder is one like any other
         self.into.mkdir()
-        done = subprocess.run([self.top / "ltm", "--install", "."], cwd=self.into, env=self.environment(),
-                              capture_output=True, text=True)
+        done = subprocess.run(
+            [self.top / "ltm", "--install", "."], cwd=self.into, env=self.environment(), capture_output=True, text=True
+        )
         self.assertEqual((done.returncode, self.answer()), (0, "installed: load\n"), done.stderr)
 
     def test_what_is_not_ours(self) -> None:
@@ -553,8 +599,9 @@ class Installing(Clone):
         self.assertIn("is no folder", self.install(self.folder / "file").stderr)
 
     def start(self) -> "subprocess.Popen[str]":
-        return subprocess.Popen([self.top / "ltm", "--install", self.into], env=self.environment(),
-                                stderr=subprocess.PIPE, text=True)
+        return subprocess.Popen(
+            [self.top / "ltm", "--install", self.into], env=self.environment(), stderr=subprocess.PIPE, text=True
+        )
 
     def test_two_at_once(self) -> None:
         """One waits for the other."""
@@ -584,17 +631,22 @@ class Installing(Clone):
     def test_its_program_is_found_from_any_python(self) -> None:
         """Also where a library is missing, and the tools run themselves anew by the Python that has it."""
         self.install()
-        asked = ("import sys; sys.path.append(sys.argv.pop(1)); from ltm_tools.program import find_program;"
-                 " print(find_program())")
-        done = subprocess.run([sys.executable, "-c", asked, self.into], cwd="/", env={"PATH": SYSTEM},
-                              capture_output=True, text=True)
+        asked = (
+            "import sys; sys.path.append(sys.argv.pop(1)); from ltm_tools.program import find_program;"
+            " print(find_program())"
+        )
+        done = subprocess.run(
+            [sys.executable, "-c", asked, self.into], cwd="/", env={"PATH": SYSTEM}, capture_output=True, text=True
+        )
         self.assertEqual(done.stdout, f"{self.into / 'ltm'}\n", done.stderr)
 
 
 def everything(top: Path) -> dict[str, bytes]:
     """What stands below a folder; of a link, where it goes."""
-    return {str(path): os.readlink(path).encode() if path.is_symlink() else path.read_bytes() if path.is_file() else b""
-            for path in top.rglob("*")}
+    return {
+        str(path): os.readlink(path).encode() if path.is_symlink() else path.read_bytes() if path.is_file() else b""
+        for path in top.rglob("*")
+    }
 
 
 class Proving(Clone):
@@ -613,10 +665,13 @@ class Proving(Clone):
         self.assertIn("proving 6 crates, 4 at a time", done.stderr)
         self.assertIn("0 of 6 crates proved, 6 left, 0 minutes gone, about 3 more", done.stderr)
         self.assertIn("6 of 6 crates proved, 0 left", done.stderr)
-        self.assertEqual((self.made / "listed").read_text(),
-                         "".join(f"ltm_{name}: ltm_low csv\n" for name in "abcd") + "ltm_low:\n")
-        self.assertEqual([line.split(" in ")[0] for line in self.log() if line[:7] != "version"],
-                         ["all check --jobs 4", "run --jobs 4 -- try 1 4"])
+        self.assertEqual(
+            (self.made / "listed").read_text(), "".join(f"ltm_{name}: ltm_low csv\n" for name in "abcd") + "ltm_low:\n"
+        )
+        self.assertEqual(
+            [line.split(" in ")[0] for line in self.log() if line[:7] != "version"],
+            ["all check --jobs 4", "run --jobs 4 -- try 1 4"],
+        )
         self.assertEqual(self.run_ltm("case", "load").stdout, "proved program: load\n")
         self.assertIn("proved and built already", self.prove().stderr)
 
@@ -631,7 +686,7 @@ class Proving(Clone):
         done = self.prove()
         self.assertEqual(done.returncode, 0)
         self.assertIn("5 of 6 crates proved, 1 left, 0 minutes gone, about 1 more", done.stderr)
-        self.assertEqual([line.split()[0] for line in self.log()[before:]], ["version", "run"])
+        self.assertEqual([line.split()[0] for line in self.log()[before:]], ["version", "run", "version"])
 
     def test_a_change_is_proved_anew(self) -> None:
         self.rt(PROVES)
@@ -655,7 +710,11 @@ class Proving(Clone):
         heard = functools.partial(signal.signal, signal.SIGINT, signal.SIG_DFL)
         proof = subprocess.Popen(
             [self.top / "ltm", "--prove", "--jobs", "4"],
-            cwd=self.folder, env=self.environment(), stderr=subprocess.PIPE, text=True, start_new_session=True,
+            cwd=self.folder,
+            env=self.environment(),
+            stderr=subprocess.PIPE,
+            text=True,
+            start_new_session=True,
             preexec_fn=heard,
         )
         for _ in range(200):
@@ -672,35 +731,32 @@ class Proving(Clone):
 class Plans(unittest.TestCase):
     """How long a proof takes, by hand: a crate of 60 seconds, four of 60 on it, and a program of 120 on these."""
 
-    def plan(self, lanes: int) -> Plan:
+    def plan(self, lanes: int) -> ProofPlan:
         needs = stands_on(read_crates(CRATES))
         costs = read_costs(COSTS)
-        return Plan(needs, {name: float(costs[name.removeprefix("ltm_")]) for name in needs}, lanes)
+        return ProofPlan(needs, {name: float(costs[name.removeprefix("ltm_")]) for name in needs}, lanes)
 
     def test_side_by_side_and_then_alone(self) -> None:
-        self.assertEqual([(lanes, self.plan(lanes).length()) for lanes in (1, 2, 4)], [(1, 420), (2, 300), (4, 180)])
-        self.assertEqual([self.plan(lanes).tail for lanes in (1, 2, 4)], [["ltm"]] * 3)
-
-    def test_a_long_chain_gets_all_processors(self) -> None:
-        needs = {"a": [], "b": ["a"], "c": ["b"], "side": [], "ltm": ["c", "side"]}
-        costs = dict.fromkeys(needs, 100.0)
-        self.assertEqual(Plan(needs, costs, 4).tail, ["b", "c", "ltm"])
-        self.assertEqual(Plan(needs, costs, 4).length(), 100 + 3 * 50)
-
-    def test_the_scale_is_what_was_shown(self) -> None:
         plan = self.plan(4)
-        self.assertEqual(plan.seconds_left((), (), 0, 0), 180)
-        low = ["ltm_low"]
-        # the first crate took 600 seconds in place of 60, so 10 times as long: weighed with 240 seconds at 1 that is
-        # (240 + 6000) / 840
-        self.assertAlmostEqual(plan.scale((), low, 600, 600), 6240 / 840)
-        self.assertAlmostEqual(plan.seconds_left((), low, 600, 600), 120 * 6240 / 840)
-        # 60 seconds on, the next may be nearly done, and the rest takes no less than that
-        self.assertAlmostEqual(plan.seconds_left((), low, 600, 660), 120 * (240 + 6600) / 900 - 60)
-        # nothing is done after 120 seconds, so it is twice as slow as the table
-        self.assertAlmostEqual(plan.scale((), (), 0, 120), (240 + 240) / 360)
+        self.assertEqual(
+            (set(plan.side_by_side), plan.tail), ({"ltm_low", *(f"ltm_{name}" for name in "abcd")}, ["ltm"])
+        )
+
+    def test_a_chain_at_the_end_gets_all_processors(self) -> None:
+        needs: Needs = {"a": [], "b": ["a"], "c": ["b"], "side": [], "ltm": ["c", "side"]}
+        self.assertEqual(tail_of(needs), ["b", "c", "ltm"])
+        self.assertEqual(tail_of({**needs, "side": ["b"]}), ["ltm"])  # `c` and `side` can be proved side by side
+        self.assertEqual(tail_of({**needs, "side": ["c"]}), ["a", "b", "c", "side", "ltm"])
+
+    def test_the_rest_at_the_pace_of_the_run(self) -> None:
+        # 420 seconds of the table: alone at a pace of 1, on more processors at 2, and at most at 2.5
+        self.assertEqual([self.plan(lanes).seconds_left((), (), 0) for lanes in (1, 2, 4, 64)], [420, 210, 168, 168])
+        # 60 of 420 took 600 seconds: with 240 seconds at a pace of 2.5 that is 840 seconds for 660, and 360 are left
+        self.assertAlmostEqual(self.plan(4).seconds_left((), ["ltm_low"], 600), 360 * 840 / 660)
+        # nothing is done after 240 seconds, so it is twice as slow as the table
+        self.assertEqual(self.plan(4).seconds_left((), (), 240), 2 * 168)
         # what was kept says nothing of the pace
-        self.assertEqual(plan.seconds_left(low, low, 0, 0), 120)
+        self.assertEqual(self.plan(4).seconds_left(["ltm_low"], ["ltm_low"], 0), 360 / 2.5)
 
     def test_crates_that_stand_on_one_another(self) -> None:
         with self.assertRaisesRegex(Fault, "stands on itself"):
@@ -709,8 +765,12 @@ class Plans(unittest.TestCase):
     def test_the_crates_of_this_clone(self) -> None:
         needs = stands_on(read_crates((CLONE / "crates.txt").read_text()))
         self.assertEqual([name for name in needs if name.endswith("_tests")], [])
-        self.assertTrue(all(place > max((list(needs).index(need) for need in lower), default=-1)
-                            for place, lower in enumerate(needs.values())))
+        self.assertTrue(
+            all(
+                place > max((list(needs).index(need) for need in lower), default=-1)
+                for place, lower in enumerate(needs.values())
+            )
+        )
 
 
 if __name__ == "__main__":

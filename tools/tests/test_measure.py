@@ -1,0 +1,114 @@
+"""Tests of tools/measure: what a run costs, the cases that are made, the page, and that no other page has times."""
+import re
+import sys
+import unittest
+from unittest import mock
+
+from support import BUILT, CLONE, FolderTest, needs_program, script
+from ltm_tools.case import Case
+from ltm_tools.errors import Fault
+from measuring import page, runs, speeds, tables
+from measuring.made import Made, closures
+from measuring.page import Section
+from measuring.room import Room
+from measuring.sections import SECTIONS
+
+measure = script("measure")
+BURNS = "import time\nwhile time.process_time() < 0.3: pass\nprint('burnt')"
+TIME = re.compile(
+    r"\d[\d.,]* (?:ms|s|seconds|minutes|microseconds) of processor time|\d ms each|"
+    r"processor time[^.|]{0,40}\d[\d.,]* (?:ms|s|seconds|minutes)\b"
+)
+WITH_TIMES = {"MEASURED.md", "CHANGELOG.md"}  # the page, and what changed from one version to the next
+
+
+def table_of(room: Room) -> tables.Table:
+    return tables.Table(("what", "ms"), [("a load", "1.0")], ["That is all."])
+
+
+ONE = Section("one", "First", "Of one.", table_of)
+TWO = Section("two", "Second", "Of two.", table_of)
+
+
+class Costs(FolderTest):
+    def test_processor_time_memory_and_output(self) -> None:
+        cost = runs.cost_of([sys.executable, "-c", BURNS])
+        self.assertTrue(0.3 <= cost.seconds < 3, cost)
+        self.assertEqual(cost.output, b"burnt\n")
+        self.assertGreater(cost.memory, 3)
+
+    def test_a_run_that_fails(self) -> None:
+        with self.assertRaisesRegex(Fault, "ended with status 3: no luck"):
+            runs.cost_of([sys.executable, "-c", "import sys; print('no luck', file=sys.stderr); sys.exit(3)"])
+
+    def test_numbers(self) -> None:
+        self.assertEqual([tables.figure(value) for value in (1234.5, 12.34, 1.234, 0.0123)],
+                         ["1,234", "12.3", "1.23", "0.012"])  # fmt: skip
+        self.assertEqual((tables.ratio(3, 2), tables.ratio(3, 0)), ("1.50", "-"))
+
+
+class Cases(FolderTest):
+    def test_a_grid(self) -> None:
+        """Of 2 by 3 nodes: 7 pairs of neighbours, both ways; each of the two ends has five origins."""
+        case = Made("grid", 2, 3, 2, 10).case()
+        self.assertEqual((len(case.links), len(case.nodes), len(case.demand)), (14, 6, 10))
+
+    @needs_program
+    def test_closures_are_settled_one_by_one(self) -> None:
+        made = Made("corridor", 1, 4, 1, 20, 30)
+        with mock.patch.dict("os.environ", {"LTM": str(BUILT)}):
+            case = made.write(self.folder)
+        self.assertEqual(Case.read(self.folder).cells(), case.cells())
+        self.assertEqual(closures(case, self.folder / "script.jsonl", 3), 4 * 20)
+        cost = runs.cost_of([BUILT, "session", "0"], self.folder, self.folder / "script.jsonl")
+        self.assertEqual(cost.output.count(b"accepted"), 3)
+        self.assertGreater(speeds.recomputed(cost), 0)
+
+    @needs_program
+    def test_a_plain_engine_has_to_answer_alike(self) -> None:
+        small = ((Made("corridor", 1, 4, 1, 20, 30), 2, 1.0),)
+        other = self.program("print('version 0')")
+        with mock.patch.object(speeds, "BESIDE", small), mock.patch.dict("os.environ", {"LTM": str(BUILT)}):
+            table = speeds.beside_plain(Room(self.folder, BUILT, BUILT, 100))
+            self.assertEqual(len(table.rows), 3)
+            self.assertNotIn(tables.DASH, table.rows[0])
+            alone = speeds.beside_plain(Room(self.folder, BUILT, None, 100))
+            self.assertEqual(list(alone.rows[0][-2:]), [tables.DASH] * 2)
+            with self.assertRaisesRegex(Fault, "the plain engine answers otherwise"):
+                speeds.beside_plain(Room(self.folder, BUILT, other, 100))
+
+
+class ThePage(FolderTest):
+    def test_a_section_that_is_measured_anew_leaves_the_others(self) -> None:
+        first = page.text_of({"one": "*then*\n\nold", "two": "*then*\n\nkept"}, (ONE, TWO))
+        kept = page.kept_of(first, (ONE, TWO))
+        self.assertEqual(kept, {"one": "*then*\n\nold", "two": "*then*\n\nkept"})
+        second = page.text_of({**kept, "one": "*now*\n\nnew"}, (ONE, TWO))
+        self.assertEqual(second, first.replace("*then*\n\nold", "*now*\n\nnew"))
+        self.assertIn("Not measured yet.", page.text_of({}, (ONE,)))
+
+    def test_what_is_written_of_a_section(self) -> None:
+        told = measure.measured(ONE, Room(self.folder, self.program(""), None, 100))
+        self.assertRegex(told.splitlines()[0], r"^\*\d+ \w+ \d{4}, \d+ x .*, an unproved program \([0-9a-f]{12}\)\.\*$")
+        self.assertEqual(told.splitlines()[-3:], ["| a load | 1.0 |", "", "That is all."])
+
+    def test_the_page_is_of_this_script(self) -> None:
+        text = measure.PAGE.read_text(encoding="utf-8")
+        kept = page.kept_of(text, SECTIONS)
+        self.assertEqual(set(kept), {section.name for section in SECTIONS})
+        self.assertEqual(page.text_of(kept, SECTIONS), text)
+
+    def test_no_other_page_has_times(self) -> None:
+        pages = [CLONE / "README.md", *(CLONE / "docs").glob("*.md"), *(CLONE / "examples").glob("**/*.md")]
+        found = [
+            (path.name, match[0])
+            for path in pages
+            if path.name not in WITH_TIMES
+            for match in TIME.finditer(" ".join(path.read_text(encoding="utf-8").split()))
+        ]
+        self.assertEqual(found, [])
+        self.assertTrue(TIME.search("it takes 3.5 s of processor time"))
+
+
+if __name__ == "__main__":
+    unittest.main()
