@@ -18,12 +18,38 @@ import xml.etree.ElementTree as ElementTree
 from pathlib import Path
 
 NETS = {
-    "town": ["--grid", "--grid.number", "7", "--grid.length", "180", "--grid.attach-length", "150",
-             "--default.lanenumber", "2",
-             "--default-junction-type", "traffic_light", "--no-turnarounds"],
-    "region": ["--rand", "--rand.iterations", "700", "--rand.min-distance", "260", "--rand.max-distance", "600",
-               "--rand.connectivity", "0.97",
-               "--default.speed", "16.67", "--default-junction-type", "priority", "--no-turnarounds", "--seed", "11"],
+    "town": [
+        "--grid",
+        "--grid.number",
+        "7",
+        "--grid.length",
+        "180",
+        "--grid.attach-length",
+        "150",
+        "--default.lanenumber",
+        "2",
+        "--default-junction-type",
+        "traffic_light",
+        "--no-turnarounds",
+    ],
+    "region": [
+        "--rand",
+        "--rand.iterations",
+        "700",
+        "--rand.min-distance",
+        "260",
+        "--rand.max-distance",
+        "600",
+        "--rand.connectivity",
+        "0.97",
+        "--default.speed",
+        "16.67",
+        "--default-junction-type",
+        "priority",
+        "--no-turnarounds",
+        "--seed",
+        "11",
+    ],
 }
 MINUTES = {"town": 30, "region": 15}
 VEHICLES = {"town": 4500, "region": 4500}
@@ -45,15 +71,19 @@ def run(words: list[str]) -> None:
         sys.exit(f"make.py: {words[0]} is missing: apt-get install sumo")
     done = subprocess.run(words, capture_output=True, text=True)
     if done.returncode:
-        sys.exit(f"make.py: {words[0]}:"
-                 f" {done.stderr.strip().splitlines()[-1] if done.stderr.strip() else done.returncode}")
+        sys.exit(
+            f"make.py: {words[0]}:"
+            f" {done.stderr.strip().splitlines()[-1] if done.stderr.strip() else done.returncode}"
+        )
 
 
 def junctions(net: Path) -> list[tuple[str, float, float]]:
     """The junctions with their places, those at the rim included and first."""
     found = [node for node in ElementTree.parse(net).getroot().iter("junction") if node.get("type") != "internal"]
-    return [(node.get("id", ""), float(node.get("x", "0")), float(node.get("y", "0")))
-            for node in sorted(found, key=lambda node: node.get("type") != "dead_end")]
+    return [
+        (node.get("id", ""), float(node.get("x", "0")), float(node.get("y", "0")))
+        for node in sorted(found, key=lambda node: node.get("type") != "dead_end")
+    ]
 
 
 def offsets(net: Path, plans: Path) -> None:
@@ -72,7 +102,7 @@ def trips(name: str, nodes: list[tuple[str, float, float]], share: float) -> lis
     """When vehicles set out, from where and where to: most in the middle of the time, from any junction to some places
     far enough away."""
     draw = random.Random(1).random
-    places = sorted(nodes[:RIM[name]], key=lambda node: draw())[:PLACES[name]]
+    places = sorted(nodes[: RIM[name]], key=lambda node: draw())[: PLACES[name]]
     wide = max(node[1] for node in nodes) - min(node[1] for node in nodes)
     made = []
     while len(made) < VEHICLES[name]:
@@ -91,12 +121,29 @@ def main() -> None:
     run(["netgenerate", *NETS[args.name], "-o", str(net)])
     if args.name == "town":
         offsets(net, args.folder / "town.add.xml")
-    lines = [f'  <trip id="{number}" depart="{depart:.2f}" fromJunction="{start}" toJunction="{end}"/>'
-             for number, (depart, start, end) in enumerate(trips(args.name, junctions(net), args.share))]
+    lines = [
+        f'  <trip id="{number}" depart="{depart:.2f}" fromJunction="{start}" toJunction="{end}"/>'
+        for number, (depart, start, end) in enumerate(trips(args.name, junctions(net), args.share))
+    ]
     wishes.write_text("<routes>\n" + "\n".join(lines) + "\n</routes>\n")
-    run(["duarouter", "-n", str(net), "-t", str(wishes), "--junction-taz", "--weights.random-factor", "1.5", "--seed",
-         "1",
-         "--ignore-errors", "--no-warnings", "-o", str(routes)])
+    run(
+        [
+            "duarouter",
+            "-n",
+            str(net),
+            "-t",
+            str(wishes),
+            "--junction-taz",
+            "--weights.random-factor",
+            "1.5",
+            "--seed",
+            "1",
+            "--ignore-errors",
+            "--no-warnings",
+            "-o",
+            str(routes),
+        ]
+    )
     edges = sum(edge.get("function") != "internal" for edge in ElementTree.parse(net).getroot().iter("edge"))
     vehicles = sum(1 for _ in ElementTree.parse(routes).getroot().iter("vehicle"))
     print(f"{net} has {edges} links, and {routes} {vehicles} vehicles in {MINUTES[args.name]} minutes")
