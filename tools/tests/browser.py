@@ -12,6 +12,7 @@ import urllib.error
 import urllib.request
 from typing import Any
 
+from clicks import Clicks
 from firefox import FIREFOX, Firefox
 from support import FolderTest, needs
 
@@ -25,7 +26,7 @@ needs_browser = (
 )
 
 
-class Browser:
+class Browser(Clicks):
     """A window of 1400 by 900; `close` ends it."""
 
     def __init__(self) -> None:
@@ -85,7 +86,7 @@ class Browser:
             if self.run(script, *args):
                 return
             time.sleep(0.02)
-        raise AssertionError(f"waited in vain: {script}")
+        raise AssertionError(f"waited in vain: {script} {args}; {self.told_state()}")
 
     def type(self, keys: str) -> None:
         """Keys for whatever has the focus, one after the other; Shift or Ctrl holds until the key NULL."""

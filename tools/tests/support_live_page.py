@@ -75,22 +75,18 @@ class LivePage(BrowserTest):
 
     def press(self, selector: str, number: int = 0) -> None:
         """A click of the mouse on an element."""
-        self.browser.click(
-            *self.browser.run(
-                "const one = document.querySelectorAll(arguments[0])[arguments[1]]; "
-                "one.scrollIntoView({block: 'nearest'});"
-                "const box = one.getBoundingClientRect(); return [box.left + box.width / 2, box.top + box.height / 2]",
-                selector,
-                number,
-            )
-        )
+        self.browser.click_on(selector, number)
+
+    def click(self, name: str) -> None:
+        """A click of the mouse on a road of the map."""
+        self.browser.click_map("live.middle(args[0])", name)
 
     def wait(self, count: int) -> None:
         """Waits until so many changes stand, and all is shown that comes of them."""
         self.browser.until(
-            "const one = live.times[live.times.length - 1]; return live.state.list.length ==="
-            " arguments[0] && one.counted && one.painted && live.state.frame.revision ==="
-            " live.state.revision && live.state.strip.revision === live.state.revision",
+            "const one = live.times[live.times.length - 1], {state} = live; return state.list.length === arguments[0]"
+            " && one.counted && one.painted && [state.frame, state.costs, state.strip]"
+            ".every(each => each && each.revision === state.revision)",
             count,
         )
 
@@ -108,7 +104,7 @@ class LivePage(BrowserTest):
 
     def shut(self, name: str, count: int) -> None:
         """Shuts a road by two clicks: on the map, and on the button."""
-        self.browser.click(*self.browser.run("return live.middle(arguments[0])", name))
+        self.click(name)
         self.assertEqual(self.text("#edit h2").split()[:2], ["Road", name])
         self.press("#edit form button")
         self.wait(count)

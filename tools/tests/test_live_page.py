@@ -5,6 +5,7 @@ import random
 import re
 import signal
 import unittest
+import unittest.mock
 import zipfile
 from pathlib import Path
 from typing import Any
@@ -23,6 +24,33 @@ HOSTILE = "<img src=x onerror=document.title=1>"
 @needs_live
 @needs_program
 class Page(LivePage):
+    def test_what_comes_later_moves_nothing(self) -> None:
+        """Curves, words and totals that come after a click stand where there was room for them, so that the next click
+        hits what it was meant for; one that something lies over says what it would hit."""
+        self.serve()
+        box = (
+            "const boxOf = id => { const {x, y, width, height} = document.getElementById(id).getBoundingClientRect();"
+            " return [x, y, width, height]; };"
+        )
+        changes = "return boxOf('changes')"
+        picked = self.browser.run(box + "live.app.picking.named({link: 'north_east'});" + changes)
+        self.browser.until("return live.state.curves")
+        self.assertEqual(self.browser.run(box + changes), picked)
+        places = box + "return [boxOf('network'), boxOf('undo'), boxOf('strip'), boxOf('time')]"
+        before, words = self.browser.run(places), self.text("#differs")
+        self.shut("north_east", 1)
+        self.assertEqual((self.browser.run(places), words), (before, ""))
+        self.assertIn("Queues differ", self.text("#differs"))
+        self.browser.run(
+            "const one = document.createElement('p'); one.id = 'over'; document.body.append(one);"
+            "one.style.cssText = 'position: fixed; inset: 0; z-index: 9'"
+        )
+        with (
+            unittest.mock.patch.object(self.browser, "tries", 3),
+            self.assertRaisesRegex(AssertionError, 'no click on .*#undo.*id="over".* lies over it; .*changes.: 1'),
+        ):
+            self.press("#undo")
+
     def test_each_kind_by_clicks(self) -> None:
         self.serve()
         self.see(60)
@@ -32,18 +60,17 @@ class Page(LivePage):
         self.assertEqual(self.text("#edit h2").split()[:2], ["Node", "north"])
         self.press("#edit form button")
         self.wait(2)
-        self.browser.click(*self.browser.run("return live.middle('west_south')"))
+        self.click("west_south")
         for number in (1, 2, 3, 4):
             self.press("#edit .kinds button", number)
             self.press("#edit form button")
             self.wait(2 + number)
-        x, y = self.browser.run("return live.nodeAt('west')")
         self.browser.call(
             "POST",
             self.browser.session + "/actions",
             {"actions": [{"type": "key", "id": "keys", "actions": [{"type": "keyDown", "value": SHIFT}]}]},
         )
-        self.browser.click(x, y)
+        self.browser.click_map("live.nodeAt(args[0])", "west")
         self.browser.type(SHIFT + NULL)
         self.press("#edit form button")
         self.wait(7)
@@ -132,7 +159,7 @@ class Page(LivePage):
         """Its hours are those worked by hand; the words beside the button say who is diverted."""
         self.serve("roads", Case.read(self.case(**ROADS)))
         self.see(300)
-        self.browser.click(*self.browser.run("return live.middle('fast')"))
+        self.click("fast")
         self.assertIn("Nobody changes route", self.text("#edit .hint"))
         self.browser.run("document.querySelector('#edit select').focus()")
         self.browser.type("a")
@@ -164,7 +191,7 @@ class Page(LivePage):
         )
         roads = "#roads td:nth-child(1)"
         self.assertEqual(self.texts(roads), ["n1 (origin)", "Main"])
-        self.browser.click(*self.browser.run("return live.middle('a')"))
+        self.click("a")
         self.browser.until("return live.state.curves && document.querySelector('#curves .hint')")
         self.assertEqual(self.text("#curves .hint"), "with its turns b")
         # of 5.0 that have entered a 2.4 have left b by the last moment, 16 s, and 2.6 are between
@@ -189,7 +216,7 @@ class Page(LivePage):
             row.node = {"north": "constructor"}.get(row.node, row.node)
         self.serve(case=case)
         self.see(60)
-        self.browser.click(*self.browser.run("return live.middle('north_east')"))
+        self.click("north_east")
         self.press("#edit form button")
         self.press("#edit form button")
         self.wait(1)
@@ -330,7 +357,7 @@ class Page(LivePage):
         self.assertEqual(self.text("#list .link"), "north_east closed, 7:10 to 7:15")
         self.assertNotEqual(self.texts("#sums dd"), with_it)
         self.check()
-        self.browser.run("document.getElementById('undo').click()")
+        self.press("#undo")
         self.browser.until("return live.state.list[0].ask.to === 120")
         self.wait(1)
         self.assertEqual((self.texts("#sums dd"), self.browser.console()), (with_it, []))
@@ -360,7 +387,7 @@ class Page(LivePage):
             (self.text("#list .link"), self.texts("#sums dd")), ("north_east closed, 7:10 to 7:20", shown[0][0])
         )
         self.check()
-        self.browser.run("document.getElementById('undo').click()")
+        self.press("#undo")
         self.wait(0)
         self.assertEqual(self.texts("#sums dd"), base)
         self.press("#scenes th .back", 1)

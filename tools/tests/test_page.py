@@ -271,7 +271,7 @@ class InABrowser(BrowserTest):
         self.assertEqual(self.text("#clock"), "7:00:08")
         self.browser.press("#time", RIGHT * 2)
         self.assertEqual(self.text("#clock"), "7:00:10")
-        self.browser.click(*self.browser.run("return ltm.middle('a')"))
+        self.browser.click_map("ltm.middle(args[0])", "a")
         self.assertEqual(self.text("#link h2"), "Link a from n1 to n2, 20 m")
         self.assertEqual(
             self.browser.run("return document.querySelectorAll('#link svg path[stroke]:not(.domain)').length"), 5
@@ -389,7 +389,7 @@ class InABrowser(BrowserTest):
             ),
             [5000, 2400, 2600],
         )
-        self.browser.click(*self.browser.run("return ltm.middle('a')"))
+        self.browser.click_map("ltm.middle(args[0])", "a")
         self.assertEqual(self.text("#link h2"), "Link Main from n1 to n2, 20 m, with b")
         # the search takes a line, and the table the rest
         self.assertLess(
@@ -402,7 +402,7 @@ class InABrowser(BrowserTest):
         )
         self.browser.run("document.querySelector('#joined input').click()")
         self.assertEqual(self.browser.run(rows), ["n1 (origin)", "a"])
-        self.browser.click(*self.browser.run("return ltm.middle('a')"))
+        self.browser.click_map("ltm.middle(args[0])", "a")
         self.assertEqual(self.text("#link h2"), "Link a from n1 to n2, 20 m")
         self.browser.open(write_page(self.folder, *words, "--each-link"))
         self.assertEqual(
@@ -475,9 +475,9 @@ class InABrowser(BrowserTest):
                 self.assertGreater(way[0] * south - way[1] * east, 0)
                 self.assertLess(2.6, (east**2 + south**2) ** 0.5)
                 self.assertLess((east**2 + south**2) ** 0.5, 4)
-        self.browser.click(*self.browser.run("return ltm.middle('bow')"))
+        self.browser.click_map("ltm.middle(args[0])", "bow")
         self.assertEqual(self.text("#link h2"), "Link bow from A to B, 200 m")
-        self.browser.click(*self.browser.run("return ltm.middle('back')"))
+        self.browser.click_map("ltm.middle(args[0])", "back")
         self.assertEqual(self.text("#link h2"), "Link back from B to A, 200 m")
         self.assertEqual(self.browser.console(), [])
 

@@ -19,12 +19,11 @@ export class Frames {
 
   show(words) {
     const { state, map, times, wire } = this.live, { links, nodes } = state.net;
-    const fresh = state.frame === null || state.frame.revision !== words[0];
     state.frame = frameOf(words, links.length, nodes.length);
     this.flying = state.frame.k !== this.asked && wire.send({ see: this.asked });
     map.draw();
     const one = times[times.length - 1];
-    if (!fresh || !one || one.drawn !== undefined) return;
+    if (!one || one.drawn !== undefined || words[0] <= one.since) return;
     one.drawn = performance.now();
     behindPaint(() => { one.painted = performance.now(); });
   }

@@ -71,7 +71,7 @@ export class Live {
 
   // Asks for a change of the list.
   change(told) {
-    this.times.push({ asked: performance.now() });
+    this.times.push({ asked: performance.now(), since: this.state.revision });
     this.say("Working out the effect ..");
     this.jumps = told.edit !== undefined;
     this.wire.send({ ...told, at: this.times.length - 1 });
@@ -83,7 +83,7 @@ export class Live {
     if (told.refused !== undefined) this.refused(told);
     if (told.seeking !== undefined) this.progress.show(told);
     if (told.notice !== undefined) this.say(told.notice, true);
-    if (told.costs !== undefined) this.results.show(told.costs);
+    if (told.costs !== undefined) this.results.show({ ...told.costs, revision: told.revision });
     if (told.scenes !== undefined) this.scenes.show(told.scenes);
     if (told.strip !== undefined) this.showStrip(told);
     if (told.curve !== undefined) this.picking.showCurves(told);
@@ -106,13 +106,13 @@ export class Live {
     $("joined").hidden = !state.net.roads.size;
     document.title = `${told.name} live`;
     $("title").textContent = told.name;
+    this.sights.legend();  // which takes room from the map
     this.map.measure();
     this.frames.lost();
     this.say("");
     if (first) {
       this.player.show(Math.round(told.slots / FIRST_PART), true);
       this.picking.pick({});
-      this.sights.legend();
     } else {
       this.frames.see(this.player.here());
       this.picking.tell();
@@ -136,7 +136,8 @@ export class Live {
     this.state.strip = { ...strip, revision: of };
     this.strip.show(strip);
     const found = differsOf(strip);
-    if (this.jumps && of === this.state.revision && found !== null) this.player.show(found.most);
+    if (of !== this.state.revision) return;  // of an earlier list
+    if (this.jumps && found !== null) this.player.show(found.most);
     this.jumps = false;
   }
 

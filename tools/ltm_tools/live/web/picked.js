@@ -57,6 +57,12 @@ function curvesOf(net, curve) {
   }));
 }
 
+// Curves that are still to come, of a road with its turns where `parts` has more than one link, or of an origin.
+export function noCurves(kind, parts) {
+  const of = name => ({ curve: name, kind, now: [[], []], base: [[], []], free: [0, 0] });
+  return parts.length > 1 ? { kind: "approach", parts: parts.map(of) } : of(parts[0]);
+}
+
 // Draws the curves, those of the base thin; gives those of now.
 export function drawCurves(box, net, curve) {
   const road = curve.kind !== "node", [now, base] = curvesOf(net, curve), { start, step, slots } = net;

@@ -1,5 +1,5 @@
 // What is picked: asked of the server, shown in the form, marked on the map and in the table.
-import { described, drawCurves } from "./picked.js";
+import { described, drawCurves, noCurves } from "./picked.js";
 
 export class Picking {
   // `live` has `state`, `net`, `wire`, `map`, `panel`, `results`, `drawMoment()` and `say(text, bad)`.
@@ -25,11 +25,22 @@ export class Picking {
   pick(what, share) {
     const { live } = this, road = this.roadOf(what.link);
     live.state.picked = road === undefined ? what : { link: live.net.roads.get(road)[0] };
-    this.curves.attr("hidden", "");
+    this.awaitCurves();
     live.panel.draw(described(live.net, live.state.picked, { road, share }));
     this.tell();
     live.results.table.mark();
     live.map.draw();
+  }
+
+  // Makes room for the curves that are to come, so that nothing below moves when they are there.
+  awaitCurves() {
+    const { state, net } = this.live, { link, node } = state.picked, isOrigin = net.isOrigin.has(node);
+    state.curves = null;
+    this.curves.attr("hidden", link === undefined && !isOrigin ? "" : null);
+    if (link === undefined && !isOrigin) return;
+    const road = this.roadOf(link), all = road === undefined ? [link] : net.roads.get(road);
+    const parts = isOrigin ? [net.nodes[node].name] : all.map(one => net.links[one].name);
+    drawCurves(this.curves, net, noCurves(isOrigin ? "node" : "link", parts));
   }
 
   // Picks, and has it in sight.

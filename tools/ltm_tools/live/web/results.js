@@ -26,7 +26,7 @@ export class Results {
     if (!costs.comparable) say(NOT_COMPARABLE, true);
     this.draw();
     this.live.scenes.draw();
-    if (one && one.counted === undefined && one.drawn !== undefined) one.counted = performance.now();
+    if (one && one.counted === undefined && costs.revision > one.since) one.counted = performance.now();
   }
 
   // Whether a road has any delay in the base, now, or in a scenario.
