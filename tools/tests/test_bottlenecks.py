@@ -8,7 +8,9 @@ from support import BUILT, FolderTest, needs_dask, needs_program
 from support_assign import LINKS, SIGNALS
 from support_cluster import ClusterTest
 from ltm_tools.case import Case, Limit
+from ltm_tools.errors import Fault
 from ltm_tools.worth.capacity import ENTRY, ROAD, STOP_LINE, capacity_of, scaled
+from ltm_tools.worth.result import FIELDS, read_worths, savings
 
 # Ten vehicles set out at once and stand at stop lines that let half a vehicle a second through, in steps of 1 s. At
 # a rate of c a second the queue is 10 - c k vehicles k seconds after the first has left, as long as that is above 0:
@@ -68,6 +70,28 @@ class Capacities(FolderTest):
         change = capacity_of(case, case.links[1], 0, 100).changed(Fraction(-1, 1000))
         assert change is not None
         self.assertEqual((change.edits[0].told()["jam_per_km"], change.per_hour), (299, -24))
+
+
+class TheTable(FolderTest):
+    def read(self, *rows: str) -> "dict[str, int]":
+        path = self.folder / "worth.csv"
+        path.write_text("".join(f"{row}\n" for row in (",".join(FIELDS), *rows)))
+        return dict(savings(read_worths(path)))
+
+    def test_what_is_saved(self) -> None:
+        """Times are in thousandths of a vehicle times ms; a link that cannot have more is left out."""
+        row = "stop line,1800.0,450.0,-20.000001,-20,0.000,-450.0,33.375,33.375,0.000,0.02,1,20,0,a,"
+        none = "road,7200.0,,,,,-24.0,1.000,1.000,0.000,0.02,0,0,0,,"
+        costs = "entry,1800.0,180.0,1.000000,1.000,0.000,-180.0,0,0,0.000,0.02,1,0,1,,a"
+        self.assertEqual(self.read(f"a,{row}", f"b,{none}", f"c,{costs}"), {"a": 20_000_001, "c": -1_000_000})
+        for wrong, told in (
+            (f"a,{row.replace('stop line', 'bridge')}", "one of stop line, entry, road is wanted"),
+            (f"a,{row.replace('-20.000001', 'x')}", "row 2: more_travel_time_s is .x.: a number"),
+        ):
+            with self.assertRaisesRegex(Fault, told):
+                self.read(wrong)
+        with self.assertRaisesRegex(Fault, "no link stands in it"):
+            self.read()
 
 
 @needs_program

@@ -14,9 +14,10 @@ from ..case.source import links_named
 from ..case.streets import read_streets, street_and_id, with_streets
 from ..errors import Fault
 from ..formats import clock_text, counted, exact_or_none
-from ..listing import Cell, TimeUnit, percent, rounded, seconds, text_table, time_unit, vehicles
+from ..listing import Cell, TimeUnit, percent, text_table, time_unit
+from ..worth.result import FIELDS, cells, delays_changed_most, effect_of, tenths
 from ..worth.spread import Asked, worths
-from ..worth.trials import Effect, Trials
+from ..worth.trials import Trials
 from ..worth.weighing import MOST_PART, TIMES_ROUNDING, Tried, Worth, by_savings, candidates
 from .arguments import add_format_arguments, add_program_argument, add_start_argument, clock, whole, write_table
 
@@ -32,26 +33,6 @@ the delay falls and rises most. Where the delay rises elsewhere by much of what 
 docs/IMPROVE.md says more.
 """
 HEADER = ("link", "held by", "veh/h", "more", "travel time", "less", "travel time", "moves on", "delay falls", "rises")
-FIELDS = (
-    "link",
-    "held_by",
-    "capacity_per_h",
-    "more_per_h",
-    "more_travel_time_s",
-    "more_delay_s",
-    "more_arrived",
-    "less_per_h",
-    "less_travel_time_s",
-    "less_delay_s",
-    "less_arrived",
-    "rounding_s",
-    "clear",
-    "delay_falls_s",
-    "delay_rises_s",
-    "falls",
-    "rises",
-)
-MOST_NAMED = 3  # links where delays fall, and where they rise
 
 
 def needs(args: argparse.Namespace) -> Sequence[str]:
@@ -155,48 +136,6 @@ def watched(found: Iterable[Worth], count: int) -> list[Worth]:
     if shown:
         print(file=sys.stderr)
     return worths
-
-
-def cells(worth: Worth) -> list[Cell]:
-    """A row for programs: capacities in vehicles an hour, times in vehicle seconds, arrivals in vehicles."""
-    effect = effect_of(worth)
-    return [
-        worth.link,
-        worth.kind,
-        tenths(worth.per_hour),
-        *of_tried(worth.more),
-        *of_tried(worth.less),
-        seconds(worth.rounding),
-        int(worth.is_clear),
-        seconds(effect.falls),
-        seconds(effect.rises),
-        " ".join(name for name, _ in delays_changed_most(effect, -1)),
-        " ".join(name for name, _ in delays_changed_most(effect, 1)),
-    ]
-
-
-def of_tried(tried: Tried | None) -> list[Cell]:
-    """A change of a capacity and its effect."""
-    if tried is None:
-        return [None] * 4
-    effect = tried.effect
-    return [tenths(tried.per_hour), seconds(effect.spent), seconds(effect.delay), vehicles(effect.arrived)]
-
-
-def effect_of(worth: Worth) -> Effect:
-    """The effect of more capacity; none where that cannot be."""
-    return worth.more.effect if worth.more else Effect(0, 0, 0, {})
-
-
-def delays_changed_most(effect: Effect, sign: int) -> list[tuple[str, int]]:
-    """The links and origins whose delay falls (-1) or rises (1) most, the most first."""
-    found = [(name, change) for name, change in effect.by_name.items() if sign * change > 0]
-    return sorted(found, key=lambda one: -sign * one[1])[:MOST_NAMED]
-
-
-def tenths(number: Fraction) -> Decimal:
-    """A number to the nearest tenth."""
-    return rounded(number.numerator, number.denominator, 1)
 
 
 def text(found: Sequence[Worth], weighed: int, most: int, spent: int, streets: Mapping[str, str]) -> str:
