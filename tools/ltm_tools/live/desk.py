@@ -22,6 +22,7 @@ from .entries import Entry
 from .hearing import Question, Seekers, question_of
 from .kept import Script, kept_of, page_of
 from .messages import Make, Told, told_curve, told_delays, told_list, told_totals
+from .route import Route, told_route
 from .scenario import Scenario
 from .strip import Strip
 
@@ -40,6 +41,8 @@ class Browser(Protocol):
     picked: tuple[str, str] | None  # what it has picked: a `link`, a `node` or an `approach`, and its name
     shown: tuple[int, tuple[str, str] | None]  # the revision and the pick of the curves that it has
     pending: int
+    route: Route  # the links that it has put together
+    routed: tuple[int, Route]  # the revision and the links of the route that it has
 
     def send(self, told: Told | bytes) -> None:
         """Tells it something."""
@@ -278,7 +281,7 @@ class Desk:
         self.tell(self.costs)
 
     async def show(self) -> None:
-        """Shows each browser its boundary, then its curves."""
+        """Shows each browser its boundary, then its curves and its route."""
         for browser in list(self.browsers):
             if browser.wanted:
                 browser.wanted = False
@@ -288,3 +291,8 @@ class Desk:
             if self.ready and browser.picked is not None and browser.shown != wanted:
                 browser.shown = wanted
                 browser.send(await self.call(partial(told_curve, self.scenario, *browser.picked)))
+        for browser in list(self.browsers):
+            asked = (self.scenario.revision, browser.route)
+            if self.ready and browser.route and browser.routed != asked:
+                browser.routed = asked
+                browser.send(await self.call(partial(told_route, self.scenario, browser.route)))

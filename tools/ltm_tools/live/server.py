@@ -29,6 +29,7 @@ from .guard import (
 )
 from .kept import case_zip, script_bytes
 from .messages import Make, Told, asked_boundary, make_of, object_of, picked_of, text_of, whole_number_of
+from .route import Route, route_of
 from .scenario import Scenario
 from .welcome import files, hello
 
@@ -133,6 +134,8 @@ class Socket(Guarded, tornado.websocket.WebSocketHandler):
     name, boundary, wanted, pending = "", 0, False, 0
     picked: tuple[str, str] | None = None
     shown: tuple[int, tuple[str, str] | None] = (-1, None)
+    route: Route = ()
+    routed: tuple[int, Route] = (-1, ())
     known, counted, may_change = False, False, False
     waits: object = None
 
@@ -165,6 +168,8 @@ class Socket(Guarded, tornado.websocket.WebSocketHandler):
             self.ask(make)
         elif "pick" in told:
             self.pick(told["pick"])
+        elif "route" in told:
+            self.follow(told["route"])
         elif "stop" in told:
             self.site.desk.seekers.stop((self, whole_number_of(told["stop"])))
         elif (boundary := asked_boundary(told, self.site.desk.scenario.slots)) is not None:
@@ -210,6 +215,14 @@ class Socket(Guarded, tornado.websocket.WebSocketHandler):
     def pick(self, told: object) -> None:
         """Picks a link or an origin, to be shown its curves, or none."""
         self.picked, self.shown = picked_of(told, self.site.desk.scenario), (-1, None)
+        self.site.desk.look()
+
+    def follow(self, told: object) -> None:
+        """Puts a route together, to be shown what it takes, or none."""
+        try:
+            self.route, self.routed = route_of(told, self.site.desk.scenario), (-1, ())
+        except Fault as fault:
+            self.send({"notice": str(fault)})
         self.site.desk.look()
 
     def on_close(self) -> None:

@@ -42,17 +42,21 @@ def first_moment(counts: Sequence[int], step_ms: int, count: int) -> int | None:
     return (k - 1) * step_ms + -(-(count - below) * step_ms // (above - below))
 
 
-class Path:
-    """A path of links with the curves along it, and what its first node's demand has produced."""
+class Trips:
+    """Links one behind the other, of each what has entered and left it by each boundary, and what has been produced at
+    the first node and what has left it."""
 
-    def __init__(self, curves: Curves, case: Case, names: Sequence[str], wait: bool = True) -> None:
-        self.links = path_links(case.links, names)
-        self.step_ms, self.end = curves.step_ms, curves.step_ms * (curves.boundaries - 1)
-        self.curves = [tuple(map(as_list, delay.checked_curves(curves, link))) for link in self.links]
-        node = self.links[0].tail
-        rows = delay.demand_by_origin(case).get(node, []) if wait else []
-        self.produced = as_list(delay.produced(rows, curves.boundaries))
-        self.departed = as_list(curves.departed(node)) if wait else self.produced
+    def __init__(
+        self,
+        links: Sequence[Link],
+        step_ms: int,
+        curves: Sequence[tuple[Sequence[int], Sequence[int]]],
+        produced: Sequence[int],
+        departed: Sequence[int],
+    ) -> None:
+        self.links, self.step_ms, self.curves = links, step_ms, curves
+        self.end = step_ms * (len(produced) - 1)
+        self.produced, self.departed = produced, departed
 
     @property
     def free_ms(self) -> int:
@@ -84,6 +88,18 @@ class Path:
     def trips(self, every_ms: int) -> Iterator[TripTimes]:
         """The trips of departures at every so many ms, from the first slot's beginning on, and before the end."""
         return (self.trip(moment) for moment in range(0, self.end, every_ms))
+
+
+class Path(Trips):
+    """A path of links with the curves along it, and what its first node's demand has produced."""
+
+    def __init__(self, curves: Curves, case: Case, names: Sequence[str], wait: bool = True) -> None:
+        links = path_links(case.links, names)
+        node = links[0].tail
+        rows = delay.demand_by_origin(case).get(node, []) if wait else []
+        produced = as_list(delay.produced(rows, curves.boundaries))
+        along = [(as_list(up), as_list(down)) for up, down in (delay.checked_curves(curves, link) for link in links)]
+        super().__init__(links, curves.step_ms, along, produced, as_list(curves.departed(node)) if wait else produced)
 
 
 def path_links(links: Iterable[Link], names: Sequence[str]) -> list[Link]:

@@ -10,6 +10,7 @@ import { Picking } from "./picking.js";
 import { Player } from "./play.js";
 import { Progress } from "./progress.js";
 import { Results } from "./results.js";
+import { Route } from "./route.js";
 import { Scenes } from "./scenes.js";
 import { Sights } from "./sights.js";
 import { Strip, differsOf } from "./strip.js";
@@ -20,7 +21,7 @@ const $ = id => document.getElementById(id), FIRST_PART = 3;
 export class Live {
   constructor(token) {
     this.state = { net: null, frame: null, costs: null, list: [], you: "", revision: 0, picked: {}, found: "",
-      shown: "queue", ready: false, joined: true, curves: null, strip: null };
+      shown: "queue", ready: false, joined: true, curves: null, strip: null, route: null };
     this.times = [];  // for tests: of each change when it was asked for, drawn, painted and counted
     this.token = token;
     this.from = 0;  // where the span of a change begins
@@ -38,13 +39,15 @@ export class Live {
     const { state } = this;
     this.progress = new Progress($("stop"), $("pending"));
     this.picking = new Picking(this, d3.select("#curves"));
-    this.sights = new Sights(state, { canvas: $("network"), tip: $("tip"), pick: what => this.picking.pick(what) });
+    this.sights = new Sights(state, { canvas: $("network"), tip: $("tip"), pick: what => this.picking.pick(what),
+      along: () => this.route.links });
     this.map = this.sights.map;
     this.panel = new Panel(d3.select("#edit"), this);
     this.list = new List(d3.select("#list"), this);
     this.results = new Results(this, { totals: d3.select("#sums"), table: d3.select("#roads table"),
       unit: d3.select("#unit") });
     this.scenes = new Scenes(d3.select("#scenes"), this);
+    this.route = new Route(d3.select("#route .body"), d3.select("#routing"), this);
     this.strip = new Strip(d3.select("#strip"), d3.select("#differs"), this);
     this.player = new Player({ time: $("time"), button: $("play"), clock: $("clock") },
       { slots: () => state.net.slots, clockOf: k => this.net.clock(k), goTo: (k, byHand) => this.goTo(k, byHand) });
@@ -86,6 +89,7 @@ export class Live {
     if (told.costs !== undefined) this.results.show({ ...told.costs, revision: told.revision });
     if (told.scenes !== undefined) this.scenes.show(told.scenes);
     if (told.strip !== undefined) this.showStrip(told);
+    if (told.route !== undefined) this.route.show(told);
     if (told.curve !== undefined) this.picking.showCurves(told);
   }
 
@@ -116,6 +120,7 @@ export class Live {
     } else {
       this.frames.see(this.player.here());
       this.picking.tell();
+      this.route.tell();
     }
   }
 
@@ -129,6 +134,7 @@ export class Live {
 
   drawMoment() {
     drawMoment(d3.select("#curves"), this.net.start + this.player.here() * this.net.step);
+    this.route.drawNow();
   }
 
   // Shows the strip, and after a change of one's own goes to where queues differ most.

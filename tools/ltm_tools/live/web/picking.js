@@ -26,6 +26,7 @@ export class Picking {
     const { live } = this, road = this.roadOf(what.link);
     live.state.picked = road === undefined ? what : { link: live.net.roads.get(road)[0] };
     this.awaitCurves();
+    if (live.route.on && what.link !== undefined) live.route.add(live.state.picked.link);
     live.panel.draw(described(live.net, live.state.picked, { road, share }));
     this.tell();
     live.results.table.mark();

@@ -9,7 +9,7 @@ const FEW_LINKS = 80, LEAST_LABEL = 500;
 
 export class Sights {
   // `state` has `net`, `frame`, `picked`, `shown` and `list`.
-  constructor(state, { canvas, tip, pick }) {
+  constructor(state, { canvas, tip, pick, along }) {
     this.state = state;
     this.map = new RoadMap(canvas, tip, {
       get networks() { return [state.net]; },
@@ -17,6 +17,7 @@ export class Sights {
       amount: link => state.frame === null ? 0 : this.amount(link),
       waiting: node => state.frame === null ? 0 : state.frame.now.waiting[node],
       chosen: () => state.picked,
+      along,
       label: link => this.label(link),
       marks: () => this.marks(),
       nodeFirst: (node, event) => Boolean(event && event.shiftKey),

@@ -93,6 +93,7 @@ export class RoadMap {
   paint(pen, network, drawn) {
     const { shows, view } = this, ways = view.placed(network), thick = view.thickness(network);
     const { link } = shows.chosen();
+    if (shows.along) for (const one of shows.along()) stroke(pen, ways[one], thick * 2.6 + 2, CHOSEN);
     const parts = drawn.map(one => [one, this.partOf(one)]).filter(([, part]) => part !== 0);
     parts.sort((a, b) => Math.abs(a[1]) - Math.abs(b[1]));
     for (const [one, part] of parts) stroke(pen, ways[one], thick * (1 + 1.2 * Math.abs(part)), colourOf(part));
