@@ -8,6 +8,7 @@ import unittest
 import unittest.mock
 import zipfile
 from pathlib import Path
+from xml.etree import ElementTree
 from typing import Any
 
 from browser import CTRL, ENTER, LEFT, NULL, SHIFT, TAB
@@ -19,6 +20,26 @@ from ltm_tools.case import Case, Limit
 
 NOT_COMPARABLE = "Do not compare these hours: the vehicles not arrived by the end differ by over 0.1 % of all."
 HOSTILE = "<img src=x onerror=document.title=1>"
+# of all pixels those where the SVG differs much from the PNG, and those that are not the ground
+PIXELS = """\
+const image = new Image();
+return import("/picture.js").then(made => new Promise((done, failed) => {
+  image.onerror = () => failed(new Error("no image"));
+  image.onload = () => {
+    const one = made.pictureOf(live.app), other = document.createElement("canvas"), {width, height} = one;
+    Object.assign(other, {width, height});
+    other.getContext("2d").drawImage(image, 0, 0, width, height);
+    const [here, there] = [one, other].map(each => each.getContext("2d").getImageData(0, 0, width, height).data);
+    let [different, drawn] = [0, 0];
+    for (let at = 0; at < here.length; at += 4) {
+      const by = Math.max(...[0, 1, 2].map(part => Math.abs(here[at + part] - there[at + part])));
+      different += by > 80;
+      drawn += here[at] < 200;
+    }
+    done([different / (width * height), drawn / (width * height)]);
+  };
+  image.src = "data:image/svg+xml;charset=utf-8," + encodeURIComponent(arguments[0]);
+}));"""
 
 
 @needs_live
@@ -317,6 +338,27 @@ class Page(LivePage):
             " shown.dispatchEvent(new Event('change'))"
         )
         self.assertEqual((self.text("#scale span"), self.browser.console()), ("−100", []))
+
+    def test_a_picture_of_lines(self) -> None:
+        """The SVG is well formed whatever the case is called, has the totals as texts, and looks as the PNG does, but
+        for the edges of letters and lines."""
+        self.serve(HOSTILE)
+        self.see(60)
+        self.shut("north_east", 1)
+        self.browser.command("Page.setDownloadBehavior", behavior="allow", downloadPath=str(self.folder))
+        self.press("#svg")
+        said = self.browser.run("return document.getElementById('notice').textContent")
+        self.assertRegex(said, r"^Saved .*\.svg\.$")
+        self.browser.until("return live.state.frame.k === live.app.player.here()")
+        text = self.browser.run("return import('/picture.js').then(made => made.svgOf(live.app))")
+        root = ElementTree.fromstring(text)
+        self.assertEqual({one.tag.partition("}")[2] for one in root.iter()}, {"svg", "path", "rect", "text"})
+        texts = [one.text for one in root.iter("{http://www.w3.org/2000/svg}text")]
+        self.assertTrue(str(texts[0]).startswith(f"{HOSTILE}, 7:"))
+        self.assertIn(self.texts("#sums dd")[0], str(texts[1]))
+        different, drawn = self.browser.run(PIXELS, text)
+        self.assertGreater(drawn, 0.02)
+        self.assertLess(different, 0.01)
 
     def test_the_strip_of_time(self) -> None:
         """All queues at each boundary are the program's, now and in the base; a change leads to where they differ most,

@@ -11,7 +11,7 @@ from support_live_page import LivePage
 from ltm_tools.case import Case
 
 ROUTE = ["west_north", "north_centre", "centre_east"]
-AT = 115  # a boundary within the closure of the last of them
+AT, FILLS = 115, 75  # boundaries within the closure of the last of them: the one before it is full, and fills up
 
 
 @needs_live
@@ -52,17 +52,19 @@ class Route(LivePage):
         self.assertEqual(times["base"][::6], self.travel_times(self.where))
         self.assertIn(None, times["now"])
 
-        states = [line.split() for line in self.program(*({"do": "state", "slot": slot} for slot in (AT, AT + 1)))]
+        slots = (FILLS, FILLS + 1, AT)
+        *fills, state = [line.split() for line in self.program(*({"do": "state", "slot": slot} for slot in slots))]
         links = [link.name for link in Case.read(self.where).links]
-        place = links.index("north_centre")
-        on_it = [int(one[one.index("in") + 1 + place]) - int(one[one.index("out") + 1 + place]) for one in states]
+        place = 1 + links.index("north_centre")
+        on_it = [int(one[one.index("in") + place]) - int(one[one.index("out") + place]) for one in fills]
         share = sum(on_it) / 2 / (400 * 150)  # in parts of 60 vehicles
-        self.assertAlmostEqual(self.browser.run(f"return live.state.route.shares.now[1][{AT}]"), share)
+        self.assertNotEqual(*on_it)
+        self.assertAlmostEqual(self.browser.run(f"return live.state.route.shares.now[1][{FILLS}]"), share)
         self.see(AT)
-        queues = {name: int(states[0][states[0].index("queue") + 1 + at]) for at, name in enumerate(links)}
+        queues = {name: int(state[state.index("queue") + 1 + at]) for at, name in enumerate(links)}
         count = (queues["west_north"] + queues["north_centre"]) / 1000
-        wanted = f"At 7:19:10 {count:.1f} vehicles queue from the end of north_centre; west_north is blocked by north_centre."
-        self.assertEqual(self.text("#route .blocked"), wanted)
+        wanted = f"{count:.1f} vehicles queue from the end of north_centre; west_north is blocked by north_centre."
+        self.assertEqual(self.text("#route .blocked"), f"At 7:19:10 {wanted}")
         self.assertEqual(len(self.texts("#route .diagram")), 2)
 
         self.press("#routing")

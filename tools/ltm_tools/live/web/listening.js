@@ -1,6 +1,6 @@
 // What a user does with the buttons, boxes and keys of the page.
 import { keepAs } from "./keep.js";
-import { savePicture } from "./picture.js";
+import { savePicture, saveSvg } from "./picture.js";
 
 const $ = id => document.getElementById(id), ZOOM = 1.5;
 const FILES = ["script", "case"], ZOOMS = [["in", ZOOM], ["out", 1 / ZOOM], ["fit"]];
@@ -46,6 +46,7 @@ async function link(live) {
 
 export function listen(live) {
   $("picture").addEventListener("click", () => savePicture(live));
+  $("svg").addEventListener("click", () => saveSvg(live));
   $("link").addEventListener("click", () => link(live));
   for (const id of FILES) $(id).addEventListener("click", event => keepAs(event.target, live));
   for (const [id, factor] of ZOOMS) $(id).addEventListener("click", () => live.map.zoomBy(factor));

@@ -4,6 +4,7 @@ import { cellsOf } from "./costs.js";
 import { FREE, GROUND, INK, colourOf } from "./colours.js";
 import { FONT } from "./painting.js";
 import { save } from "./keep.js";
+import { PathText, SvgPen } from "./svgpen.js";
 
 export const ABOVE = 64;  // pixels over the map
 const BELOW = 120, MARGIN = 16, SCALE = 220, STRIP = 60, BAR = 6, SIZE = { big: 16, small: 11 };
@@ -58,23 +59,48 @@ function strip(pen, live, y, wide) {
   write(pen, net.clock(net.slots), wide - MARGIN, y + STRIP + 20, { align: "end" });
 }
 
-// The picture as a canvas, as dense as the map on the screen.
-export function pictureOf(live) {
-  const { canvas } = live.map, dense = live.map.dense, picture = document.createElement("canvas");
-  const wide = canvas.width / dense, tall = canvas.height / dense, pen = picture.getContext("2d");
-  picture.width = canvas.width;
-  picture.height = Math.round((ABOVE + tall + BELOW) * dense);
-  pen.setTransform(dense, 0, 0, dense, 0, 0);
+// Paints all of it; `paintMap()` that of the map.
+function paint(pen, live, { wide, tall }, paintMap) {
   pen.fillStyle = GROUND;
   pen.fillRect(0, 0, wide, ABOVE + tall + BELOW);
   head(pen, live);
-  pen.drawImage(canvas, 0, ABOVE, wide, tall);
+  paintMap();
   scale(pen, live, ABOVE + tall + 8);
   if (live.state.strip) strip(pen, live, ABOVE + tall + 28, wide);
+}
+
+const sizeOf = ({ canvas, dense }) => ({ wide: canvas.width / dense, tall: canvas.height / dense });
+
+// The picture as a canvas, as dense as the map on the screen.
+export function pictureOf(live) {
+  const { canvas, dense } = live.map, size = sizeOf(live.map), picture = document.createElement("canvas");
+  const pen = picture.getContext("2d");
+  picture.width = canvas.width;
+  picture.height = Math.round((ABOVE + size.tall + BELOW) * dense);
+  pen.setTransform(dense, 0, 0, dense, 0, 0);
+  paint(pen, live, size, () => pen.drawImage(canvas, 0, ABOVE, size.wide, size.tall));
   return picture;
+}
+
+// The same as the text of an SVG file.
+export function svgOf(live) {
+  const size = sizeOf(live.map), pen = new SvgPen(size.wide, ABOVE + size.tall + BELOW);
+  paint(pen, live, size, () => {
+    pen.open(0, ABOVE, size.wide, size.tall);
+    live.map.paintWhole(pen, PathText);
+    pen.close();
+    pen.textBaseline = "alphabetic";
+  });
+  return pen.text();
 }
 
 export function savePicture(live) {
   const name = `${live.net.name}.png`;
   pictureOf(live).toBlob(blob => { save(blob, name); live.say(`Saved ${name}.`); }, "image/png");
+}
+
+export function saveSvg(live) {
+  const name = `${live.net.name}.svg`;
+  save(new Blob([svgOf(live)], { type: "application/octet-stream" }), name);
+  live.say(`Saved ${name}.`);
 }

@@ -8,9 +8,9 @@ const ORDER = ["other", "green", "water", "building", "road", "rail"], LINES = {
 const MARGIN = 14, MOST_NAMES = 120, NAME_SIZE = 11, LEAST_PART = 0.7, RIGHT_ANGLE = Math.PI / 2;
 
 // The shapes of a background by kind, as paths about the middle of the map.
-export function pathsOf(background, { east, north }) {
+export function pathsOf(background, { east, north }, Shape = Path2D) {
   return ORDER.filter(kind => (background.shapes || {})[kind]).map(kind => {
-    const path = new Path2D();
+    const path = new Shape();
     for (const flat of background.shapes[kind]) {
       for (let at = 0; at < flat.length; at += 2) {
         path[at ? "lineTo" : "moveTo"](flat[at] - east, flat[at + 1] - north);

@@ -2,12 +2,13 @@
 // vehicles wait.
 import { paintBackground, paintPlace, paintStreets, pathsOf } from "./backdrop.js";
 import { CHOSEN, FREE, colourOf } from "./colours.js";
-import { apart, middleOf } from "./geometry.js";
+import { middleOf } from "./geometry.js";
 import { moveByKey } from "./keys.js";
 import { paintLabels, paintMarks, paintNodes, stroke } from "./painting.js";
+import { pointOf, showTip, under } from "./pointing.js";
 import { View } from "./view.js";
 
-const NEAR = 9, NEAR_NODE = 6, MANY = 1500, PAUSE = 90, MOST_ZOOM = 60;
+const MANY = 1500, PAUSE = 90, MOST_ZOOM = 60;
 const within = part => Math.max(-1, Math.min(1, part));
 
 // A map on a canvas. `shows` tells what it shows: `network()` with nodes and links, `networks` that all have room on
@@ -21,8 +22,8 @@ export class RoadMap {
     this.moved = { canvas: document.createElement("canvas"), zoom: null, timer: null };
     this.zoom = d3.zoom().scaleExtent([0.5, MOST_ZOOM]).on("zoom", () => this.move(d3.zoomTransform(canvas)));
     d3.select(canvas).call(this.zoom);
-    canvas.addEventListener("click", event => shows.choose(this.under(this.pointOf(event), event), event));
-    canvas.addEventListener("mousemove", event => this.showTip(event));
+    canvas.addEventListener("click", event => shows.choose(under(this, pointOf(canvas, event), event), event));
+    canvas.addEventListener("mousemove", event => showTip(this, event));
     canvas.addEventListener("mouseleave", () => { tip.hidden = true; });
     canvas.addEventListener("keydown", event => moveByKey(this, event));
     new ResizeObserver(() => this.resized()).observe(canvas.parentElement);
@@ -70,13 +71,24 @@ export class RoadMap {
   }
 
   paintSteady(pen, network, drawn) {
-    const { view } = this, ways = view.placed(network), thick = view.thickness(network);
     if (this.paths === null || this.pathsOf !== network) {
       this.pathsOf = network;
-      this.paths = pathsOf(network.background, view.fit);
+      this.paths = pathsOf(network.background, this.view.fit);
     }
-    paintBackground(pen, this.paths, view, this.dense);
+    this.paintRoads(pen, network, drawn, { paths: this.paths, dense: this.dense });
+  }
+
+  paintRoads(pen, network, drawn, { paths, dense }) {
+    const { view } = this, ways = view.placed(network), thick = view.thickness(network);
+    paintBackground(pen, paths, view, dense);
     for (const link of drawn) stroke(pen, ways[link], thick, FREE);
+  }
+
+  // All of the map by a pen that writes a file; `Shape` is what it takes for lines and areas.
+  paintWhole(pen, Shape) {
+    const { view } = this, network = this.shows.network(), drawn = (view.placed(network), view.drawn(network));
+    this.paintRoads(pen, network, drawn, { paths: pathsOf(network.background, view.fit, Shape), dense: 1 });
+    this.paint(pen, network, drawn);
   }
 
   draw() {
@@ -130,38 +142,6 @@ export class RoadMap {
     pen.drawImage(moved.canvas, x, y, width * k, height * k);
     clearTimeout(moved.timer);
     moved.timer = setTimeout(() => this.draw(), PAUSE);
-  }
-
-  // The link next to a point of the canvas, or a node there.
-  under(point, event) {
-    const network = this.shows.network(), ways = this.view.placed(network);
-    let node = null, nearest = NEAR_NODE;
-    network.nodes.forEach((one, number) => {
-      const [x, y] = this.view.at(one.x, one.y), far = Math.hypot(point[0] - x, point[1] - y);
-      if (far < nearest && this.shows.nodeFirst(number, event) !== null) [node, nearest] = [number, far];
-    });
-    if (node !== null && this.shows.nodeFirst(node, event)) return { node };
-    let link = null, least = NEAR;
-    for (const number of this.view.drawn(network)) {
-      const far = apart(point, ways[number]);
-      if (far < least) [link, least] = [number, far];
-    }
-    return link !== null ? { link: this.view.togetherWith(link)[0] } : node !== null ? { node } : {};
-  }
-
-  pointOf(event) {
-    return d3.clientPoint ? d3.clientPoint(this.canvas, event) : d3.pointer(event, this.canvas);
-  }
-
-  showTip(event) {
-    if (!this.view.fit) return;
-    const { tip } = this, { box } = this.view.fit, point = this.pointOf(event);
-    const text = this.shows.tell(this.under(point, event));
-    tip.hidden = !text;
-    if (!text) return;
-    tip.textContent = text;
-    tip.style.left = `${Math.min(point[0] + 14, box.width - tip.offsetWidth - 8)}px`;
-    tip.style.top = `${Math.min(point[1] + 14, box.height - tip.offsetHeight - 8)}px`;
   }
 
   // The points of a link as it is drawn, in the window.
