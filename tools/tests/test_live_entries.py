@@ -73,6 +73,14 @@ class Edits(unittest.TestCase):
         )
         self.assertEqual([edit["vehicles"] for edit in found], ["32", "1.11", "0", "32", "1.111", "0", "32"])
 
+    def test_a_signal_where_capacity_is_carried(self) -> None:
+        """Two fifths of a slot let 2.7777 * 2 / 5 = 1.1111 out, of which nothing is lost."""
+        one = case()
+        one.setup.carry = True
+        asked = entry(1, span("signal", 10, 21, link="a", green=12, cycle=25))
+        edits_made = [edit.told() for batch in batches_of(one, OwnRows(one), [asked])[0] for edit in batch]
+        self.assertEqual([edit["vehicles"] for edit in edits_made], ["32", "1.111", "0", "32", "1.111", "0", "32"])
+
     def test_a_road_with_its_turns(self) -> None:
         """Of a road d1 with turns b and c: closed where it begins; a limit of 900/h shared by b and c, which let the
         same through; a speed for all; a plan with a green of 10 s for b, which is two slots of 2.777 vehicles, and none

@@ -7,7 +7,8 @@ from fractions import Fraction
 from typing import NamedTuple
 
 from ..case import Case, Link
-from ..demand.cycles import Green, Plan, exit_limits
+from ..demand.cycles import Green, Plan
+from ..demand.signal_plans import limits_of_plan
 from ..errors import Fault
 from ..formats import HOUR_MS, MOST_SLOT_UNITS, UNITS
 from ..scenario import edits
@@ -128,7 +129,7 @@ def signal_edits(ask: Ask, case: Case, link: Link, greens: tuple[Green, ...]) ->
         yield edits.Exit(link.name, ask.first, ask.end, 0)
         return
     plan = Plan(link.name, greens, ask.first * step, ask.end * step)
-    for limit in exit_limits(plan, capacity=link.capacity(step), step_ms=step, slots=case.setup.slots):
+    for limit in limits_of_plan(plan, link, case.setup):
         if slot < limit.from_slot:
             yield edits.Exit(link.name, slot, limit.from_slot)
         yield edits.Exit(link.name, limit.from_slot, limit.to_slot, limit.units)
