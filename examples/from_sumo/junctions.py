@@ -27,7 +27,7 @@ from ltm_tools.case.source import approaches_of  # noqa: E402
 from ltm_tools.commands.arguments import add_program_argument  # noqa: E402
 from ltm_tools.errors import Fault  # noqa: E402
 from ltm_tools.loading.delay import MILLIONTHS  # noqa: E402
-from ltm_tools.loading.loaded import Loaded, loaded, told_delay  # noqa: E402
+from ltm_tools.loading.loaded import LoadedCase, loaded, told_delay  # noqa: E402
 from ltm_tools.sumo.net import read_net  # noqa: E402
 
 HOUR_S = 3600
@@ -109,6 +109,7 @@ def round_parts(arms: str, control: str) -> tuple[list[str], list[str]]:
     """The nodes and edges of a roundabout, driven against the clock."""
     nodes = [f'<node id="r{arm}" x="{PLACES[arm][0] * 20}" y="{PLACES[arm][1] * 20}" type="priority"/>' for arm in arms]
     edges = [edge(f"ring_{arm}", f"r{arm}", f"r{after}", 5) for arm, after in zip("senw", "enws")]
+    edges.append('<roundabout nodes="rs re rn rw" edges="ring_s ring_e ring_n ring_w"/>')
     for arm in arms:
         edges += [edge(f"{arm}_in", arm, f"r{arm}", 1), edge(f"{arm}_out", f"r{arm}", arm, 1)]
     return [*ends(arms), *nodes], edges
@@ -277,7 +278,7 @@ def by_ltm(kind: str, main: int, net: Path, folder: Path, words: Sequence[str], 
     return Side(capacity, delays)
 
 
-def passed(found: Loaded) -> float:
+def passed(found: LoadedCase) -> float:
     """The vehicles an hour that leave the side road in the second half of the hour."""
     counts, slots = found.curves.down("s_in"), 1000 * HOUR_S // found.case.setup.step_ms
     return (int(counts[slots]) - int(counts[slots // 2])) / 500
@@ -289,7 +290,7 @@ def free_s(net: Path) -> float:
     return float(read.network.roads["s_in"].time) / 1000
 
 
-def mean_delay(found: Loaded, folder: str, free: float, program: str | None) -> float:
+def mean_delay(found: LoadedCase, folder: str, free: float, program: str | None) -> float:
     """The mean seconds of delay of a vehicle of the side road, on its link, the turns behind that and at its start."""
     report, case = told_delay(found, folder, None, program), found.case
     parts = approaches_of(folder, case.links).get("s_in", ("s_in",))
