@@ -14,6 +14,7 @@ from typing import Any
 
 from clicks import Clicks
 from firefox import FIREFOX, Firefox
+from once_more import OnceMore
 from support import FolderTest, needs
 
 CHROMIUM, DRIVER = shutil.which("chromium"), shutil.which("chromedriver")
@@ -152,7 +153,7 @@ class InFirefox(Firefox, Browser):
 
 
 @needs_browser
-class BrowserTest(FolderTest):
+class BrowserTest(OnceMore, FolderTest):
     """A folder of its own for each test, and one browser for all of the class."""
 
     browser: Browser
@@ -160,6 +161,10 @@ class BrowserTest(FolderTest):
     @classmethod
     def setUpClass(cls) -> None:
         cls.browser = InFirefox() if IN_FIREFOX else Browser()
+
+    def anew(self) -> None:
+        self.tearDownClass()
+        self.setUpClass()
 
     @classmethod
     def tearDownClass(cls) -> None:

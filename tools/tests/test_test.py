@@ -11,6 +11,7 @@ import unittest
 from contextlib import redirect_stdout
 from unittest import mock
 
+from once_more import OnceMore
 from support import TOOLS
 from ltm_tools import libraries
 
@@ -68,6 +69,30 @@ class Runs(unittest.TestCase):
 
         status, told = self.run_all(made(a_both=both, b_is_well=lambda _: None))
         self.assertEqual((status, told.splitlines()[-1]), (1, "1 passed, 1 failed, 0 skipped"))
+
+    def test_a_browser_that_is_slow_at_first(self) -> None:
+        """A test that fails at first passes at its second run, with all made anew, and says so; a fault that stays
+        fails."""
+        told: list[str] = []
+
+        class Made(OnceMore):
+            def anew(self) -> None:
+                told.append("anew")
+
+            def setUp(self) -> None:
+                self.addCleanup(told.append, "cleaned")
+
+            def test_a_slow(self) -> None:
+                self.assertIn("anew", told)
+
+            def test_b_wrong(self) -> None:
+                self.assertEqual(1 + 1, 3)
+
+        with mock.patch.object(sys, "__stderr__", io.StringIO()) as errors:
+            status, lines = self.run_all(Made)
+        self.assertEqual((status, lines.splitlines()[-1]), (1, "1 passed, 1 failed, 0 skipped"))
+        self.assertEqual(told, ["cleaned", "anew", "cleaned"] * 2)
+        self.assertEqual(errors.getvalue().count("failed, and is run once more:"), 2)
 
     def test_help(self) -> None:
         with redirect_stdout(io.StringIO()) as told:
