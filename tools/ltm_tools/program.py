@@ -130,4 +130,4 @@ def nothing_told(folder: str | os.PathLike[str], status: int) -> str:
 
 def routes_write(folder: str | os.PathLike[str]) -> str:
     """How a case without `splits.csv` gets one."""
-    return f"./ltm {folder} routes >{folder}/splits.csv writes one, of the fastest ways on empty roads"
+    return f"./ltm {folder} routes >{folder}/splits.csv writes one, of the fastest routes on empty roads"

@@ -413,7 +413,7 @@ class Command(FolderTest):
         status, out, err = self.assign("--iterations", "0", "--rounds", "2")
         self.assertEqual(
             (status, err, out.splitlines()[3]),
-            (0, "", "round 2: turns that yield have their part of the green by who drove in the best iteration"),
+            (0, "", "round 2: turns that yield get their part of the green by the traffic of the best iteration"),
             out,
         )
         self.assertIn("made: iteration 1, ", out)
@@ -462,7 +462,7 @@ class Command(FolderTest):
         )
         status, out, _ = self.assign("--iterations", "0")
         self.assertEqual(status, 0)
-        self.assertIn("120.000 vehicles are not there by the end of the horizon: 120.000 for d;", out)
+        self.assertIn("120.000 vehicles have not arrived by the end of the horizon: 120.000 for d;", out)
 
     def test_faults(self) -> None:
         self.case(**TWO)
@@ -479,7 +479,7 @@ class Command(FolderTest):
             self.assertEqual((status, out, len(err.splitlines())), (1, "", 1), out + err)
             self.assertIn(told, err)
         self.case(**{**TWO, "demand": "origin,destination,from_slot,to_slot,vehicles\n"})
-        self.assertIn("nobody seeks a way", self.assign()[2])
+        self.assertIn("nobody chooses a route", self.assign()[2])
         self.assertFalse((self.folder / "made").exists())
 
     def test_the_folder_is_made_first(self) -> None:

@@ -65,7 +65,7 @@ class ByHand(FolderTest):
         for links, signals, lack in ((TWO["links"], TWO["signals"], "demand"), (LINKS, SIGNALS, "links")):
             case = self.case(**{**TWO, "links": links, "demand": demand, "splits": splits, "signals": signals})
             status, out, err = closures(str(case), *TIMES)
-            told = f"ltm-tools closures: the case has no {lack}, so nobody seeks a way\n"
+            told = f"ltm-tools closures: the case has no {lack}, so nobody chooses a route\n"
             self.assertEqual((status, out, err), (1, "", told))
 
     def test_the_place_of_the_table_is_tried_first(self) -> None:

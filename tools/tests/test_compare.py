@@ -203,7 +203,7 @@ class Command(FolderTest):
         )
         status, out, fault = commands.run("compare", case, case, "--gap", "--curves", "x", "--program", str(BUILT))
         self.assertEqual((status, out, fault.count("\n")), (1, "", 1))
-        self.assertIn("it goes with no curve file", fault)
+        self.assertIn("leave out --curves and --other-curves", fault)
 
     def test_as_by_curve_files(self) -> None:
         """What a session tells of two cases is, byte for byte, what comes of their curve files: with signals, with who
@@ -324,7 +324,7 @@ class Versions(FolderTest):
         case, script = str(EXAMPLES / "incident"), str(EXAMPLES / "incident" / "script.jsonl")
         for words, part in (
             ([], "name the folder of another case, or a --script"),
-            ([case, "--versions", "0", "1"], "--versions tells of a --script"),
+            ([case, "--versions", "0", "1"], "--versions needs a --script"),
             ([case, "--script", script], "no other case"),
             (["--script", script, "--curves", "x"], "no curve file"),
             (["--script", script, "--versions", "0", "2"], "there is no version 2: 1 batches are accepted"),

@@ -376,7 +376,7 @@ class Missing(FolderTest):
             explain(case, 3, "", ["load"]),
             [
                 "splits.csv is not there",
-                f"    ./ltm {case} routes >{case}/splits.csv writes one, of the fastest ways on empty roads",
+                f"    ./ltm {case} routes >{case}/splits.csv writes one, of the fastest routes on empty roads",
             ],
         )
         self.assertEqual(explain(case, 3, "", ["routes"]), [])

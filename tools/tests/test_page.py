@@ -92,7 +92,7 @@ class Files(FolderTest):
         self.assertEqual(told[3:5], [["least, vehicle seconds", "64.90"], ["gap, vehicle seconds", "0.00"]])
         status, _, fault = commands.run("page", *with_curves("spillback"), "--gap", "-o", f"{self.folder}/none.html")
         self.assertEqual((status, fault.count("\n")), (1, 1))
-        self.assertIn("it goes with no curve file", fault)
+        self.assertIn("leave out --curves and --other-curves", fault)
 
     def test_no_d3(self) -> None:
         (self.folder / "d3.js").write_text("// https://d3js.org v3.5.17 Copyright\n")

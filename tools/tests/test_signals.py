@@ -120,7 +120,7 @@ class Command(FolderTest):
     def test_a_signal_before_a_destination_is_told(self) -> None:
         self.assertNotIn("end at a destination", self.give("link,cycle,green_from,green_to\na,60,0,30\n")[1])
         self.assertIn(
-            "1 of the links end at a destination: who arrives there waits for green as well",
+            "1 of the links end at a destination: vehicles that arrive there wait for green as well",
             self.give("link,cycle,green_from,green_to\nb,60,0,30\n")[1],
         )
 

@@ -180,7 +180,7 @@ class WithDelay(FolderTest):
         status, out, err = self.sweep()
         self.assertEqual((status, out), (1, ""))
         self.assertEqual(
-            err, "ltm-tools sweep: the sessions of this program tell no delay: refused command NotCommand 0\n"
+            err, "ltm-tools sweep: the sessions of this program do not report delay: refused command NotCommand 0\n"
         )
 
 

@@ -93,7 +93,7 @@ class Assignment:
         """By default from the case's own splits; nodes without one, and a case without any, begin with free-flow
         routes."""
         if not case.standing_demand():
-            raise Fault("the case has no demand, so nobody seeks a way")
+            raise Fault("the case has no demand, so nobody chooses a route")
         self.case, self.options, self.rule = case, options, options.rule
         period = options.slots(case)
         self.net = Net(case)

@@ -34,7 +34,7 @@ class Net:
     def __init__(self, case: Case) -> None:
         """A Fault where the case has no links, or no destinations."""
         if not case.links or not case.destinations:
-            raise Fault(f"the case has no {'links' if not case.links else 'demand'}, so nobody seeks a way")
+            raise Fault(f"the case has no {'links' if not case.links else 'demand'}, so nobody chooses a route")
         self.case, self.step, self.slots = case, case.setup.step_ms, case.setup.slots
         self.node_names, self.end_names = case.nodes, case.destinations
         number = {name: place for place, name in enumerate(self.node_names)}

@@ -75,7 +75,7 @@ def read_iterations(folder: str | os.PathLike[str]) -> tuple[list[int], list[flo
 
 
 def late_line(folder: str, program: str | None) -> str:
-    """Who is not there by the end of the horizon, by the destinations that most of them are for."""
+    """The vehicles that have not arrived by the end of the horizon, by the destinations that most of them are for."""
     case = Case.read(folder)
     curves = made(folder, program, case.setup.step_ms, case.setup.slots + 1)
     late = {name: -int(curves.arrived(name)[-1]) for name in case.destinations}
@@ -85,6 +85,6 @@ def late_line(folder: str, program: str | None) -> str:
     named = ", ".join(f"{vehicles_text(units)} for {name}" for units, name in worst[:MOST_LATE])
     more = f", and more for {count_text(len(worst) - MOST_LATE)} others" if len(worst) > MOST_LATE else ""
     return (
-        f"{vehicles_text(sum(late.values()))} vehicles are not there by the end of the horizon: {named}{more}; with"
-        f" a longer horizon they count as those who are"
+        f"{vehicles_text(sum(late.values()))} vehicles have not arrived by the end of the horizon: {named}{more}; take"
+        f" a longer horizon, so that all of their travel time counts"
     )

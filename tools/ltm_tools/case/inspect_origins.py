@@ -65,7 +65,7 @@ def pushing_lines(case: Case) -> list[str]:
     told = [
         f"            {counted(len(pushing), 'origin')} at nodes that others drive over may send more than the links"
         f" out"
-        f" carry, so that who sets out there pushes in: give each a link of its own to its node, or a lower"
+        f" carry, so that vehicles that set out there push in: give each a link of its own to its node, or a lower"
         f" origin_capacity"
     ]
     for carried, node in sorted(pushing)[:MOST_TOLD]:

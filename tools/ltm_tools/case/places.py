@@ -101,7 +101,7 @@ def read_places(folder: str | os.PathLike[str], case: Rows) -> Places | None:
     for row in read_table(path, ("name", "x", "y")):
         name, crs = row.text("name"), row.text("crs", "").upper() or None
         if crs is not None and CRS.fullmatch(crs) is None:
-            raise row.fault("crs", "a projection is told as in EPSG:25832")
+            raise row.fault("crs", "write a projection as in EPSG:25832")
         if name in places.of:
             raise row.fault("name", "this node has a place already")
         if places.of and crs != places.crs:

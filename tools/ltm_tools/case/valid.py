@@ -61,7 +61,7 @@ def no_row(case: Rows, node: str, destination: str, reason: str) -> BadCase:
         node,
         destination,
         f"{reason}, and no row of splits.csv says how it goes on from {node}",
-        f"add {row} to splits.csv; ltm routes writes a whole one, of the fastest ways",
+        f"add {row} to splits.csv; ltm routes writes a whole one, of the fastest routes",
     )
 
 

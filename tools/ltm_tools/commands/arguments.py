@@ -122,14 +122,14 @@ def add_counts_arguments(parser: argparse.ArgumentParser) -> None:
         metavar=("FROM", "TO"),
         nargs=2,
         type=clock,
-        help="when was counted, of tables without times: clock times",
+        help="for tables without times: the clock times between which vehicles were counted",
     )
     parser.add_argument(
         "--count-error",
         metavar=("PERCENT", "VEHICLES"),
         nargs=2,
         type=exact_number,
-        help="the error of counts that have none of their own: a part of them, and vehicles (5 0.5)",
+        help="the error of counts without one of their own: a percentage and a number of vehicles (5 0.5)",
     )
     parser.add_argument(
         "--leave-out-unknown",

@@ -53,13 +53,15 @@ def add_arguments(parser: argparse.ArgumentParser) -> None:
         required=True,
         help="the folder to write the case with the new turning fractions to",
     )
-    parser.add_argument("--iterations", type=whole, default=30, metavar="N", help="at most so many (default: 30)")
+    parser.add_argument(
+        "--iterations", type=whole, default=30, metavar="N", help="how many iterations at most (default: 30)"
+    )
     parser.add_argument(
         "--until",
         type=number,
         default=0.0,
         metavar="GAP",
-        help="stop when the relative gap is at most so many per cent (default: 0)",
+        help="stop when the relative gap is at most this percentage (default: 0)",
     )
     parser.add_argument(
         "--period",
@@ -98,7 +100,7 @@ def add_arguments(parser: argparse.ArgumentParser) -> None:
         metavar="N",
         type=whole,
         default=1,
-        help="so many processes work out destinations, with the same result (1)",
+        help="how many processes work out destinations, with the same result (1)",
     )
     add_program_argument(parser)
 
@@ -153,7 +155,7 @@ def tell_iterations(rounds: Rounds, program: str | None, done: list[Iteration]) 
     yield HEADER
     for one in rounds.run(program):
         if done and one.round > done[-1].round:
-            yield f"round {one.round}: turns that yield have their part of the green by who drove in the best iteration"
+            yield f"round {one.round}: turns that yield get their part of the green by the traffic of the best iteration"
         done.append(one)
         now = time.monotonic()
         yield line_of(one, now - began)
@@ -182,7 +184,7 @@ def ending(rounds: Rounds, done: Sequence[Iteration], args: argparse.Namespace) 
     )
     if gap.all - gap.arriving >= UNITS:
         arriving = f"{100 * gap.arriving / gap.all:.1f} %"
-        yield f"the gap is that of the {arriving} of {vehicles_text(round(gap.all))} vehicles who arrive"
+        yield f"the gap is that of the {arriving} of {vehicles_text(round(gap.all))} vehicles that arrive"
     yield from steady([one for one in done if one.round == best.round and one.demand == 100][-LAST:])
     if args.until and best.look.per_cent > args.until:
         yield (

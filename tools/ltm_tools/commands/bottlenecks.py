@@ -46,7 +46,7 @@ def add_arguments(parser: argparse.ArgumentParser) -> None:
         "--by", metavar="PERCENT", type=part, default=Fraction(5, 100), help="the part of each capacity to change (5%%)"
     )
     parser.add_argument(
-        "--links", metavar="LINK", nargs="+", help="these links alone, by their names in the case or in its source"
+        "--links", metavar="LINK", nargs="+", help="try these links alone, by their names in the case or in its source"
     )
     for word in ("from", "to"):
         parser.add_argument(

@@ -45,9 +45,9 @@ EXAMPLES = """\
     ltm-tools calibrate CASE --counts counts.csv -o CALIBRATED --slice 30 --errors errors.csv --processes 4
 
 Counts are as `validate` takes them. CALIBRATED is a case like any other, with fit.csv, demand_fit.csv and
-iterations.csv. A line an iteration: loadings so far, the sum that is made least by its parts of counts and of the
-prior, GEH below 5 and RMSN of the counts that are fitted and of those held out, hours in queues, seconds. Ctrl-C keeps
-the best so far. docs/CALIBRATE.md says what counts cannot tell.
+iterations.csv. Each iteration prints a line: the number of loadings so far, the parts of the sum that is minimised
+(counts and prior), GEH below 5 and RMSN of the counts that are fitted and of those held out, hours in queues, seconds.
+Ctrl-C keeps the best demand so far. docs/CALIBRATE.md says how it works, and what counts cannot show.
 """
 MOST_TIMES_PRIOR = 3  # an unknown at so many times its prior is told
 STILL_FALLS = 0.95  # of the sum before: an iteration that leaves less is not the last that is worth it
@@ -76,29 +76,33 @@ def add_arguments(parser: argparse.ArgumentParser) -> None:
         type=minutes,
         default=15 * MINUTE_MS,
         metavar="MINUTES",
-        help="the minutes in which what goes from an origin to a destination keeps its shape (15)",
+        help="the length of a slice, within which the demand from an origin to a destination keeps its profile (15)",
     )
     parser.add_argument(
         "--hold",
         type=whole,
         default=0,
         metavar="PERCENT",
-        help="hold out so many of 100 places, which are not fitted (0)",
+        help="hold out this percentage of the places with counts: they are measured, not fitted (0)",
     )
-    parser.add_argument("--errors", metavar="FILE", help="what the prior is wrong by: a table effect,error")
-    parser.add_argument("--iterations", type=whole, default=6, metavar="N", help="at most so many (6)")
+    parser.add_argument("--errors", metavar="FILE", help="how wrong the prior may be: a table effect,error")
+    parser.add_argument("--iterations", type=whole, default=6, metavar="N", help="how many iterations at most (6)")
     parser.add_argument(
         "--directions",
         type=whole,
         default=32,
         metavar="N",
-        help="along so many main directions at most the exact response of the loading is asked for, where shares of"
-        " the loading do not lead far enough (32)",
+        help="the exact response of the loading is worked out along at most N main directions, if shares of the"
+        " loading do not lead far enough (32)",
     )
     parser.add_argument(
-        "--samples", type=whole, default=16, metavar="N", help="demands that fit as well, which are loaded (16)"
+        "--samples",
+        type=whole,
+        default=16,
+        metavar="N",
+        help="how many demands that fit as well are loaded for the range (16)",
     )
-    parser.add_argument("--processes", type=whole, default=1, metavar="N", help="sessions at once (1)")
+    parser.add_argument("--processes", type=whole, default=1, metavar="N", help="how many sessions run at once (1)")
     parser.add_argument(
         "--scheduler", metavar="ADDRESS", help="the scheduler of a cluster of Dask, as tcp://10.0.0.7:8786"
     )

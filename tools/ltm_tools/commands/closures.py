@@ -220,10 +220,9 @@ def text(
 ) -> Iterator[str]:
     """The table for people."""
     yield (
-        f"closed from {clock_text(args.first)} to {clock_text(args.end)}, {counted(len(chosen), 'link')} by itself"
-        " each;"
-        f" what travel time rises by, in vehicle hours; `routes` is the part that the new route choice alone changes,"
-        f" the road being open; `late` is who has not arrived by the end\n"
+        f"{counted(len(chosen), 'link')}, each closed by itself from {clock_text(args.first)} to {clock_text(args.end)}:"
+        " by how many vehicle hours the total travel time rises; `routes` is the part that the new route choice alone"
+        " makes, with the road open; `late` are vehicles that have not arrived by the end\n"
     )
     yield (
         f"open: {HOURS.show(look.spent)} vehicle hours, relative gap {look.per_cent:.2f} %, late"

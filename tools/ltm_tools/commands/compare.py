@@ -123,9 +123,9 @@ def by_folders(args: argparse.Namespace) -> tuple[Comparison, tuple[str, str]]:
     """Two cases side by side, and what they are called."""
     if args.other is None or args.versions is not None:
         raise Fault(
-            "there is nothing to compare: name the folder of another case, or a --script of which --versions tells"
+            "there is nothing to compare: name the folder of another case, or a --script"
             if args.other is None
-            else "--versions tells of a --script"
+            else "--versions needs a --script"
         )
     check_gap(args.gap, args.curves, args.other_curves)
     one = side(args.case, args.curves, args.program, args.gap)

@@ -60,7 +60,7 @@ def add_arguments(parser: argparse.ArgumentParser) -> None:
         help="the length of an interval, from slot 0 on (15; with --service 60)",
     )
     parser.add_argument(
-        "--links", metavar="LINK", nargs="+", help="these links alone, by their names in the case or in its source"
+        "--links", metavar="LINK", nargs="+", help="show these links alone, by their names in the case or in its source"
     )
     parser.add_argument(
         "--service", action="store_true", help="the level of service of approaches, movements and crossings instead"

@@ -31,7 +31,7 @@ from .arguments import (
 )
 
 NAME = "validate"
-SUMMARY = "hold a loading against counts and measured travel times: GEH, RMSN, R2, screen lines, the worst counts"
+SUMMARY = "compare a loading with counts and measured travel times: GEH, RMSN, R2, screen lines, the worst counts"
 EXAMPLES = """\
     ltm-tools validate examples/corridor --counts counts.csv --start 7:00
     ltm-tools validate CASE --counts counts.csv --times times.csv -o fit.csv
@@ -39,7 +39,7 @@ EXAMPLES = """\
     ltm-tools validate CASE --counts measured.csv --detectors detectors.csv
 
 counts.csv has link,from,to,vehicles and may have place, end, error and use; times.csv has route,departs,seconds. Links
-are those of the case or of its source; times are clock times, or seconds after slot 0. Taken too: SUMO's edgeData
+are those of the case or of its source; times are clock times, or seconds after slot 0. Also read: SUMO's edgeData
 (.xml), its tables of detectors, and DTALite's measurement.csv with --span. docs/COUNTS.md says more.
 """
 MOST_WORST = 5

@@ -91,7 +91,7 @@ def arrival_notes(plans: Iterable[Plan], case: Case) -> list[str]:
     if not count:
         return []
     return [
-        f"{count} of the links end at a destination: who arrives there waits for green as well, as the"
+        f"{count} of the links end at a destination: vehicles that arrive there wait for green as well, as the"
         f" limit holds all that leave the link"
     ]
 

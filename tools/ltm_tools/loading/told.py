@@ -100,4 +100,4 @@ def told_gap(folder: str, program: Program) -> Gap:
 def check_gap(gap: bool, *curves: str | None) -> None:
     """A Fault where the gap is asked for beside a curve file, of which the program makes no loading."""
     if gap and curves != (None,) * len(curves):
-        raise Fault("--gap is told by the program of loadings that it makes: it goes with no curve file")
+        raise Fault("--gap needs a loading that the program makes: leave out --curves and --other-curves")

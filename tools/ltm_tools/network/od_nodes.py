@@ -57,7 +57,7 @@ def by_node(raw: Network, amounts: Amounts, leave_out: bool, notes: list[str]) -
         advice = (
             []
             if all("stands for zone" in fault for fault in faults)
-            else ["--leave-out-unreached leaves out demand without a route, and tells how much"]
+            else ["--leave-out-unreached leaves out demand without a route, and reports how much"]
         )
         if any("stands for zone" in fault for fault in faults):
             advice.append("node.csv says which node stands for a zone, in its fields node_id and zone_id")

@@ -43,7 +43,7 @@ def driven_routes(
             if over[one.edges]:
                 routes.append(Route(over[one.edges], one.depart_ms - begin, one.units))
             else:
-                found.leave_out("that take a turn that is not there", one.units)
+                found.leave_out("that take a turn which the net lacks", one.units)
     if not routes:
         raise Fault(
             f"{path}: no vehicle with a route over links of the case that sets out within its slots; look at" " --start"

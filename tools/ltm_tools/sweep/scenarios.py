@@ -177,5 +177,5 @@ def vehicle_times(session: Session) -> tuple[int, int, int]:
     try:
         _, spent, queued, waited = session.delay()
     except Refused as refused:
-        raise Fault(f"the sessions of this program tell no delay: {refused}") from None
+        raise Fault(f"the sessions of this program do not report delay: {refused}") from None
     return spent, queued, waited
