@@ -10,6 +10,11 @@ from support import BUILT, CLONE, needs_program
 from support_live_page import LivePage
 from ltm_tools.case import Case
 
+# the fastest way from the first link to the last, over two links in place of a slow one
+WAY = """\
+const all = [[9, 0, 5], [0, 3, 100], [0, 1, 10], [1, 3, 10], [3, 4, 5]];
+const links = all.map(([tail, head, free]) => ({tail, head, free}));
+return import("/ways.js").then(made => made.wayTo({nodes: d3.range(10), links}, 0, 4));"""
 ROUTE = ["west_north", "north_centre", "centre_east"]
 AT, FILLS = 115, 75  # boundaries within the closure of the last of them: the one before it is full, and fills up
 
@@ -72,6 +77,7 @@ class Route(LivePage):
         self.assertEqual(self.browser.run(names), ROUTE[:2])
         self.click("south_centre")  # which no road leads to from there
         self.assertRegex(self.text("#notice"), "^No way leads from north_centre to south_centre")
+        self.assertEqual(self.browser.run(WAY), [2, 3, 4])
         self.browser.run("live.send({route: ['west_north', 'centre_east']})")
         self.browser.until("return /centre_east begins at/.test(document.getElementById('notice').textContent)")
         self.assertEqual(self.browser.console(), [])

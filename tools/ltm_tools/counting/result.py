@@ -74,16 +74,20 @@ def read_fit(path: str | os.PathLike[str]) -> list[FitRow]:
 def misfits(rows: Iterable[FitRow]) -> dict[str, Fraction]:
     """Of each link by how much more is loaded than was counted over all its rows, in parts of what was counted: of
     places with several links the same for each; at most 1 where nothing was counted."""
-    sums: dict[str, list[Fraction]] = {}
-    for row in rows:
-        for link in row.links:
-            of = sums.setdefault(link, [Fraction(0), Fraction(0)])
-            of[0] += row.counted
-            of[1] += row.loaded
     return {
         link: (loaded - counted) / counted if counted else Fraction(loaded > 0)
-        for link, (counted, loaded) in sums.items()
+        for link, (counted, loaded) in sums_by_link(rows).items()
     }
+
+
+def sums_by_link(rows: Iterable[FitRow]) -> dict[str, tuple[Fraction, Fraction]]:
+    """Of each link the vehicles that were counted and are loaded, over all its rows."""
+    sums: dict[str, tuple[Fraction, Fraction]] = {}
+    for row in rows:
+        for link in row.links:
+            counted, loaded = sums.get(link, (Fraction(0), Fraction(0)))
+            sums[link] = counted + row.counted, loaded + row.loaded
+    return sums
 
 
 def flow_pairs(rows: Sequence[FitRow], use: str) -> list[Pair]:

@@ -37,6 +37,7 @@ class Browser(Protocol):
 
     name: str
     boundary: int
+    since: int | None  # the boundary from which on it is shown what has left links
     wanted: bool  # whether it is to be shown its boundary
     picked: tuple[str, str] | None  # what it has picked: a `link`, a `node` or an `approach`, and its name
     shown: tuple[int, tuple[str, str] | None]  # the revision and the pick of the curves that it has
@@ -285,7 +286,7 @@ class Desk:
         for browser in list(self.browsers):
             if browser.wanted:
                 browser.wanted = False
-                browser.send(await self.call(partial(self.scenario.frame, browser.boundary)))
+                browser.send(await self.call(partial(self.scenario.frame, browser.boundary, browser.since)))
         for browser in list(self.browsers):
             wanted = (self.scenario.revision, browser.picked)
             if self.ready and browser.picked is not None and browser.shown != wanted:

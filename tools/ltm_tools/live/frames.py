@@ -2,7 +2,8 @@
 
 A frame is a row of 64 bit floating point numbers, the lower bytes first, which hold these whole numbers exactly: the
 revision and the boundary, then of each link the queue and the vehicles on it and of each node those who wait there, all
-in thousandths of a vehicle; then the same of the base.
+in thousandths of a vehicle; then the same of the base. Where a browser asks for it, there follows of each link what has
+left it since an earlier boundary, now and in the base.
 """
 from __future__ import annotations
 
@@ -56,11 +57,15 @@ class BaseLoading:
         return [one.entered[place] for one in self.at], [one.left[place] for one in self.at]
 
 
-def frame(revision: int, boundary: int, now: Boundary, base: Boundary) -> bytes:
-    """The bytes of a frame."""
+def frame(
+    revision: int, boundary: int, now: Boundary, base: Boundary, before: tuple[Boundary, Boundary] | None = None
+) -> bytes:
+    """The bytes of a frame; with what has left the links since an earlier boundary, now and in the base, if told."""
     numbers = array("d", (revision, boundary))
     numbers.extend(now.numbers())
     numbers.extend(base.numbers())
+    for here, earlier in zip((now, base), before or ()):
+        numbers.extend(left - was for left, was in zip(here.left, earlier.left))
     if sys.byteorder == "big":
         numbers.byteswap()
     return numbers.tobytes()
@@ -71,17 +76,17 @@ class Kept:
 
     def __init__(self, most: int = MOST_BYTES) -> None:
         self.most, self.bytes = most, 0
-        self.frames: dict[tuple[int, int], bytes] = {}
+        self.frames: dict[tuple[int, int, int | None], bytes] = {}
 
-    def get(self, revision: int, boundary: int) -> bytes | None:
-        """The frame of a revision and a boundary, if it is kept."""
-        return self.frames.get((revision, boundary))
+    def get(self, revision: int, boundary: int, since: int | None = None) -> bytes | None:
+        """The frame of a revision and a boundary, with what has left links since another if told, if it is kept."""
+        return self.frames.get((revision, boundary, since))
 
-    def put(self, revision: int, boundary: int, made: bytes) -> None:
+    def put(self, revision: int, boundary: int, made: bytes, since: int | None = None) -> None:
         """Keeps a frame, and lets go of those of other revisions, and of the oldest ones where they are too many."""
-        if any(of != revision for of, _ in self.frames):
+        if any(of != revision for of, *_ in self.frames):
             self.frames, self.bytes = {}, 0
-        self.frames[revision, boundary] = made
+        self.frames[revision, boundary, since] = made
         self.bytes += len(made)
         while self.bytes > self.most and len(self.frames) > 1:
             self.bytes -= len(self.frames.pop(next(iter(self.frames))))

@@ -1,10 +1,10 @@
 """What browsers and the server tell one another: texts of JSON objects, and frames.
 
-A browser tells `token`, once and first; then `see` with a boundary, `pick` with a link or node or none, `route` with
-the names of links one behind the other or none, `edit` with a change (see the module `asks`), which with `amend`
-replaces that of an entry by its number, `undo` with the number of an entry, `switch` with that and whether it is `on`,
-`back` and `again` to undo and redo what it changed last, `stop` with what it calls a change for which shares are
-sought, and `keep`, `recall` and `drop` with the name of a scenario.
+A browser tells `token`, once and first; then `see` with a boundary, and with `since` one before it for flows, `pick`
+with a link or node or none, `route` with the names of links one behind the other or none, `edit` with a change (see the
+module `asks`), which with `amend` replaces that of an entry by its number, `undo` with the number of an entry, `switch`
+with that and whether it is `on`, `back` and `again` to undo and redo what it changed last, `stop` with what it calls a
+change for which shares are sought, and `keep`, `recall` and `drop` with the name of a scenario.
 """
 from __future__ import annotations
 
@@ -90,6 +90,12 @@ def asked_boundary(told: Members, slots: int) -> int | None:
     """The boundary that a message asks to see, if it does."""
     see = whole_number_of(told.get("see"))
     return see if see is not None and 0 <= see <= slots else None
+
+
+def asked_since(told: Members, boundary: int) -> int | None:
+    """The boundary from which on a message asks to see what has left links, if it does."""
+    since = whole_number_of(told.get("since"))
+    return since if since is not None and 0 <= since <= boundary else None
 
 
 def picked_of(told: object, scenario: Scenario) -> tuple[str, str] | None:

@@ -92,13 +92,16 @@ class Scenario:
         """All links and nodes at a boundary."""
         return boundary_of(self.session.ask(do="state", slot=boundary))
 
-    def frame(self, boundary: int) -> bytes:
-        """The frame of a boundary: see the module `frames`."""
-        kept = self.kept.get(self.revision, boundary)
+    def frame(self, boundary: int, since: int | None = None) -> bytes:
+        """The frame of a boundary, with what has left links since an earlier one if told: see the module `frames`."""
+        kept = self.kept.get(self.revision, boundary, since)
         if kept is None:
-            now = self.boundary(boundary)
-            kept = frame(self.revision, boundary, now, self.base.at[boundary] if self.ready else now)
-            self.kept.put(self.revision, boundary, kept)
+            now, before = self.boundary(boundary), None
+            if since is not None:
+                was = self.boundary(since)
+                before = (was, self.base.at[since] if self.ready else was)
+            kept = frame(self.revision, boundary, now, self.base.at[boundary] if self.ready else now, before)
+            self.kept.put(self.revision, boundary, kept, since)
         return kept
 
     def curve(self, name: str) -> tuple[Sequence[int], Sequence[int]]:

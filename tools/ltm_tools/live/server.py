@@ -28,7 +28,7 @@ from .guard import (
     Guard,
 )
 from .kept import case_zip, script_bytes
-from .messages import Make, Told, asked_boundary, make_of, object_of, picked_of, text_of, whole_number_of
+from .messages import Make, Told, asked_boundary, asked_since, make_of, object_of, picked_of, text_of, whole_number_of
 from .route import Route, route_of
 from .scenario import Scenario
 from .welcome import files, hello
@@ -132,6 +132,7 @@ class Socket(Guarded, tornado.websocket.WebSocketHandler):
     """A browser that looks on. Until it has told the token it is told nothing."""
 
     name, boundary, wanted, pending = "", 0, False, 0
+    since: int | None = None
     picked: tuple[str, str] | None = None
     shown: tuple[int, tuple[str, str] | None] = (-1, None)
     route: Route = ()
@@ -173,7 +174,7 @@ class Socket(Guarded, tornado.websocket.WebSocketHandler):
         elif "stop" in told:
             self.site.desk.seekers.stop((self, whole_number_of(told["stop"])))
         elif (boundary := asked_boundary(told, self.site.desk.scenario.slots)) is not None:
-            self.boundary, self.wanted = boundary, True
+            self.boundary, self.since, self.wanted = boundary, asked_since(told, boundary), True
             self.site.desk.look()
 
     def begin(self, told: Members) -> None:

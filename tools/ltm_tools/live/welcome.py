@@ -9,6 +9,7 @@ from ..show.network import numbered, placed_networks, told_network
 from ..show.page import WEB as SHARED, find_d3
 from ..show.scripts import modules
 from .hearing import lacking
+from .measured import told_beside
 from .messages import Told, choices_of
 from .plans import plans_of
 from .scenario import Scenario
@@ -48,4 +49,6 @@ def hello(scenario: Scenario) -> Told:
         "hears": not lacking(),
         "plans": plans_of(scenario.folder, scenario.links),
         "crossings": scenario.known.crossings,
+        "capacities": [float(link.passing(scenario.step, case.setup.carry)) for link in case.links],
+        **told_beside(scenario.folder, case),
     }

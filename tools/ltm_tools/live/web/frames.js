@@ -9,7 +9,18 @@ export class Frames {
 
   see(k) {
     this.asked = k;
-    if (!this.flying) this.flying = this.live.wire.send({ see: k });
+    if (!this.flying) this.flying = this.ask();
+  }
+
+  ask() {
+    const { net, shown } = this.live.state, k = this.asked;
+    return this.live.wire.send(shown === "flow" ? { see: k, since: Math.max(0, k - net.lastSlots(k)) } : { see: k });
+  }
+
+  // Whether the frame that is there is the one that was asked for.
+  isThere() {
+    const { frame, shown } = this.live.state;
+    return frame.k === this.asked && (shown !== "flow" || frame.now.passed !== undefined);
   }
 
   // After the connection was lost no answer is to be waited for.
@@ -18,9 +29,9 @@ export class Frames {
   }
 
   show(words) {
-    const { state, map, times, wire } = this.live, { links, nodes } = state.net;
+    const { state, map, times } = this.live, { links, nodes } = state.net;
     state.frame = frameOf(words, links.length, nodes.length);
-    this.flying = state.frame.k !== this.asked && wire.send({ see: this.asked });
+    this.flying = !this.isThere() && this.ask();
     map.draw();
     const one = times[times.length - 1];
     if (!one || one.drawn !== undefined || words[0] <= one.since) return;

@@ -110,6 +110,7 @@ export class Live {
     $("joined").hidden = !state.net.roads.size;
     document.title = `${told.name} live`;
     $("title").textContent = told.name;
+    this.sights.offer();
     this.sights.legend();  // which takes room from the map
     this.map.measure();
     this.frames.lost();
@@ -187,6 +188,7 @@ export class Live {
   colourBy(what) {
     this.state.shown = what;
     this.sights.legend();
+    if (this.state.frame && !this.frames.isThere()) this.frames.see(this.player.here());
     this.map.draw();
   }
 }

@@ -25,15 +25,14 @@ function head(pen, live) {
 }
 
 function scale(pen, live, y) {
-  const isChange = live.state.shown === "change", parts = d3.range(isChange ? -100 : 0, 101, 2);
+  const { both, unit, most } = live.sights.scale(), parts = d3.range(both ? -100 : 0, 101, 2);
   const step = SCALE / parts.length;
   parts.forEach((percent, at) => {
     pen.fillStyle = percent === 0 ? FREE : colourOf(percent / 100);
     pen.fillRect(MARGIN + at * step, y, step + 0.5, 8);
   });
   const [what] = document.getElementById("shown").selectedOptions;
-  const from = isChange ? "−100" : "0";
-  write(pen, `${what.textContent}, ${from} to 100 % of what the road stores`, MARGIN + SCALE + 8, y + 8);
+  write(pen, `${what.textContent}, ${both ? `−${most}` : "0"} to ${most} ${unit}`, MARGIN + SCALE + 8, y + 8);
 }
 
 function strip(pen, live, y, wide) {

@@ -39,12 +39,14 @@ export class Wire {
 }
 
 // The frame that a row of numbers is: the revision, the boundary, and now and in the base the queue and the vehicles of
-// each link and the vehicles that wait at each node.
+// each link and the vehicles that wait at each node; and what has left each link in the last slots, where it was asked.
 export function frameOf(words, links, nodes) {
   let at = 2;
   const part = size => words.subarray(at, at += size);
   const of = () => ({ queue: part(links), standing: part(links), waiting: part(nodes) });
-  return { revision: words[0], k: words[1], now: of(), base: of() };
+  const told = { revision: words[0], k: words[1], now: of(), base: of() };
+  if (at < words.length) [told.now.passed, told.base.passed] = [part(links), part(links)];
+  return told;
 }
 
 // Calls once the browser has painted: behind the next frame.

@@ -2,8 +2,6 @@
 import { Network } from "./network.js";
 import { ready } from "./numbers.js";
 
-const QUARTER = 15 * 60 * 1000;  // ms
-
 // Flows of a slot in text of base 64, two bytes each, the lower first: for each row the counts at all boundaries.
 function countsIn(text, rows, slots) {
   const bytes = atob(text), found = new Float64Array(rows * (slots + 1));
@@ -45,17 +43,8 @@ export class Loading extends Network {
     return ready(at => this.up(link, at), k, this.step, this.links[link].free) - this.down(link, k);
   }
 
-  // How many of the last slots an amount of flow is of, and what left a link in them.
-  lastSlots(k) {
-    return Math.max(1, Math.min(k, Math.round(QUARTER / this.step)));
-  }
-
   flow(link, k) {
     return this.down(link, k) - this.down(link, Math.max(0, k - this.lastSlots(k)));
-  }
-
-  mostFlow(all, k) {
-    return d3.sum(all, link => this.capacities[link]) * this.lastSlots(k);
   }
 
   produced(origin, k) {

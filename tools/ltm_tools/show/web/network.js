@@ -3,6 +3,7 @@
 
 import { clockOf, momentOf } from "./numbers.js";
 
+const QUARTER = 15 * 60 * 1000;  // ms
 const sum = (values, of) => values.reduce((total, value) => total + of(value), 0);
 
 // What was told of a network, with what is looked up in it.
@@ -71,6 +72,15 @@ export class Network {
     const heads = new Set(all.map(at => this.links[at].head)), tails = new Set(all.map(at => this.links[at].tail));
     const first = all.filter(at => !heads.has(this.links[at].tail));
     return { first, last: all.filter(at => !tails.has(this.links[at].head)) };
+  }
+
+  // How many of the last slots an amount of flow is of, and the most that leaves links in them.
+  lastSlots(k) {
+    return Math.max(1, Math.min(k, Math.round(QUARTER / this.step)));
+  }
+
+  mostFlow(all, k) {
+    return sum(all, link => this.capacities[link]) * this.lastSlots(k);
   }
 
   storageOf(all) {
