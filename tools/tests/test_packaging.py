@@ -60,6 +60,19 @@ class Archive(Packed):
         done = subprocess.run([into / "ltm-tools", "--help"], env=self.environment(), capture_output=True, text=True)
         self.assertEqual(done.returncode, 0)
 
+    def test_a_machine_on_which_it_does_not_run(self) -> None:
+        """The loader's words, and what the program needs by the versions that it names."""
+        with mock.patch.dict(os.environ, {"PATH": f"{self.made / 'bin'}:{SYSTEM}", "MADE": str(self.made)}):
+            self.build("echo ltm: no such library >&2\nexit 1\n# \0GLIBC_2.9\0GLIBC_2.34\0GLIBC_2.28")
+        here = self.unpacked()
+        done = self.install(here, self.folder / "into")
+        self.assertEqual((done.returncode, (self.folder / "into").exists()), (1, False))
+        self.assertIn("ltm does not run on this machine: it needs Linux on x86_64 with glibc 2.34 or later", done.stderr)
+        self.assertIn("ltm: no such library", done.stderr)
+        self.assertIn("It needs Linux on x86_64 with glibc 2.34 or later.", (here / "PROVED.md").read_text())
+        wheels = [path.name for path in self.dist.glob("*.whl")]
+        self.assertEqual(wheels, [f"ltm-{VERSION}-py3-none-manylinux_2_34_x86_64.whl"])
+
     def test_what_is_not_to_be_replaced(self) -> None:
         here, into = self.unpacked(), self.folder / "into"
         into.mkdir()

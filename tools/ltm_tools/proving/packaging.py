@@ -23,7 +23,6 @@ from .sums import program_path, sums_text
 
 MACHINE = "x86_64"
 NAME = f"{PROGRAM}-{VERSION}-{MACHINE}"
-WHEEL = f"{PROGRAM}-{VERSION}-py3-none-linux_{MACHINE}"
 EPOCH = (2026, 1, 1, 0, 0, 0)  # the date of every file in an archive, so that equal contents make equal bytes
 SUMS, NOTE, INSTALL = "SHA256SUMS", "PROVED.md", "install.sh"
 
@@ -34,6 +33,8 @@ set -eu
 here=$(cd -- "$(dirname -- "$0")" && pwd)
 (cd -- "$here" && sha256sum --quiet --check SHA256SUMS) || {
     echo "install.sh: these are not the files that were packed: unpack the archive again" >&2; exit 1; }
+said=$("$here/ltm" 2>&1 >/dev/null </dev/null) || [ $? = 2 ] || {
+    echo "install.sh: ltm does not run on this machine: {needs}: $said" >&2; exit 1; }
 mkdir -p -- "$1"
 into=$(cd -- "$1" && pwd)
 [ "$into" != "$here" ] || {
@@ -64,7 +65,7 @@ NOTE_TEXT = """# What is in this archive
 
 `ltm` {version}, built from commit {commit} and proved by {kit}.
 
-The program was built from crates that the prover accepted, whole. `ltm.sums` has the SHA-256 sum of the program and of
+It needs {needs}. The program was built from crates that the prover accepted, whole. `ltm.sums` has the SHA-256 sum of the program and of
 each text that its proof rests on: check out that commit in a clone of the repository, and `sha256sum --check ltm.sums`
 compares the texts. What is proved, and on what it rests, stands in docs/CLAIMS.md of that commit. The tools
 (`ltm-tools`) are tested, not proved.
@@ -84,7 +85,27 @@ class Proved:
 
     def note(self) -> str:
         """The note that stands in each archive."""
-        return NOTE_TEXT.format(version=VERSION, commit=self.commit, kit=self.kit)
+        return NOTE_TEXT.format(version=VERSION, commit=self.commit, kit=self.kit, needs=self.needs())
+
+    def install(self) -> str:
+        """The script that installs what is unpacked."""
+        return INSTALL_TEXT.replace("{needs}", f"it needs {self.needs()}")
+
+    def needs(self) -> str:
+        """The machine that the program needs, in words."""
+        library = self.library()
+        return f"Linux on {MACHINE}" + (f" with glibc {library[0]}.{library[1]} or later" if library else "")
+
+    def library(self) -> tuple[int, int] | None:
+        """The least version of glibc that has all that the program is linked to; None where it names none."""
+        found = re.findall(rb"\0GLIBC_(\d+)\.(\d+)", self.program)
+        return max((int(first), int(second)) for first, second in found) if found else None
+
+    def wheel(self) -> str:
+        """The name of the wheel, by which pip knows whether it can run."""
+        library = self.library()
+        system = f"manylinux_{library[0]}_{library[1]}" if library else "linux"
+        return f"{PROGRAM}-{VERSION}-py3-none-{system}_{MACHINE}"
 
 
 def proved(top: Path) -> Proved:
@@ -131,7 +152,7 @@ def put_archives(top: Path, into: Path) -> list[Path]:
     made = []
     for name, data in (
         (f"{NAME}.tar.gz", tar_of(what, {**tools, COMMAND: command})),
-        (f"{WHEEL}.whl", wheel_of(what, tools)),
+        (f"{what.wheel()}.whl", wheel_of(what, tools)),
     ):
         path = into / name
         part = into / f".{name}.{os.getpid()}.new"
@@ -148,7 +169,7 @@ def put_archives(top: Path, into: Path) -> list[Path]:
 def tar_of(what: Proved, tools: Mapping[str, bytes]) -> bytes:
     """The tar file: program, tools, sums, note and `install.sh` in one folder."""
     files = {PROGRAM: what.program, f"{PROGRAM}.sums": what.sums.encode(), **tools}
-    files |= {NOTE: what.note().encode(), INSTALL: INSTALL_TEXT.encode()}
+    files |= {NOTE: what.note().encode(), INSTALL: what.install().encode()}
     listed = sums_text((name, hashlib.sha256(data).hexdigest()) for name, data in files.items())
     made = io.BytesIO()
     with tarfile.open(fileobj=made, mode="w", format=tarfile.PAX_FORMAT) as tar:
@@ -190,7 +211,7 @@ def wheel_of(what: Proved, tools: Mapping[str, bytes]) -> bytes:
         f"{info}/{PROGRAM}.sums": what.sums.encode(),
         f"{info}/{NOTE}": what.note().encode(),
         f"{info}/METADATA": metadata().encode(),
-        f"{info}/WHEEL": WHEEL_TEXT.format(tag=WHEEL.split("-", 2)[2]).encode(),
+        f"{info}/WHEEL": WHEEL_TEXT.format(tag=what.wheel().split("-", 2)[2]).encode(),
         f"{info}/entry_points.txt": f"[console_scripts]\n{COMMAND} = {PACKAGE}.cli:main\n".encode(),
     }
     record = "".join(f"{name},sha256={urlsafe(data)},{len(data)}\n" for name, data in sorted(files.items()))
