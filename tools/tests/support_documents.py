@@ -32,7 +32,7 @@ NEVER = re.compile(
 FAR = "/tmp/"
 KEPT = "S G V SUMO_HOME"
 """The variables that a command may set for those after it."""
-DRAWN = re.compile(r"={2,}>?|-{2,}|\|-|\| {3}|#{3}|'-|\.\.\. ")
+DRAWN = re.compile(r"={2,}>?|-{2,}(?!\w)|\|-|\| {3}|#{3}|'-|\.\.\. ")
 FINE = re.compile(r"\d\.\d\d")
 FORMULA = re.compile(r" [=*] |\bwhere\b|\^2")
 
@@ -46,15 +46,14 @@ class Block:
     reason: str
 
     def kind(self) -> str:
-        """`shell`, `python`, `text`, or `drawing` for what no command prints: drawings, formulas, and forms in which
-        words in capitals stand for others."""
+        """`shell`, `python`, `text`, or `drawing` for what no command prints: drawings and formulas."""
         first, text = self.lines[0], "\n".join(self.lines)
         if COMMAND.match(first) or any(line.startswith("$ ") for line in self.lines):
             return "shell"
         if PYTHON.match(first):
             return "python"
-        others = [FORMULA, PLACE] if not FINE.search(text) else []
-        return "drawing" if any(form.search(text) for form in [DRAWN, *others]) else "text"
+        is_drawn = DRAWN.search(text) or FORMULA.search(text) and not FINE.search(text)
+        return "drawing" if is_drawn else "text"
 
 
 @dataclasses.dataclass(frozen=True)
