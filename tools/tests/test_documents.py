@@ -130,6 +130,25 @@ class Links(unittest.TestCase):
         self.assertEqual(anchors("# A `b`, [c](d.md)\n## E-f: 2nd\n"), {"a-b-c", "e-f-2nd"})
 
 
+class Places(unittest.TestCase):
+    def test_where_changes_begin(self) -> None:
+        """Each file and folder that ARCHITECTURE names for a change or a question is there."""
+        text = (CLONE / "docs" / "ARCHITECTURE.md").read_text(encoding="utf-8")
+        table = text[text.index("## Where to begin") : text.index("## The layers")]
+        self.assertGreater(len(table.splitlines()), 18)
+        named = {name.rstrip("/") for name in re.findall(r"`([\w./]*/[\w./]*)`", table)}
+        self.assertGreater(len(named), 30)
+        tops = (CLONE / "crates", CLONE / "tools", CLONE / "docs")
+        there = {
+            str(path.with_suffix(suffix))
+            for top in tops
+            for path in top.rglob("*")
+            if "out" not in path.parts
+            for suffix in {path.suffix, ""}
+        }
+        self.assertEqual({name for name in named if not any(place.endswith(f"/{name}") for place in there)}, set())
+
+
 class Folders(unittest.TestCase):
     def test_each_is_made_by_one_command(self) -> None:
         """What is copied in one document is copied in no other: a copy into a folder that is there stands within it."""
