@@ -94,6 +94,16 @@ class Linear(unittest.TestCase):
             factor.solve(numpy.array([[10.0, 4.0], [9.0, 2.0]])), [[2, 1], [1, 0]], atol=1e-15
         )
 
+    def test_more_rows_than_a_block(self) -> None:
+        random = Random(4)
+        matrix = uniform(random, 110 * 130).reshape(110, 130)
+        matrix[:, 40:60][uniform(random, 2200).reshape(110, 20) < 0.3] = 0  # columns with few entries among the others
+        inner = gram(matrix) + numpy.eye(110)
+        numpy.testing.assert_allclose(inner, matrix @ matrix.T + numpy.eye(110), rtol=1e-12, atol=1e-12)
+        right = matrix.copy()
+        numpy.testing.assert_allclose(inner @ Factor(inner).solve(right), matrix, atol=1e-12)
+        self.assertEqual(right.tobytes(), matrix.tobytes())  # what is given stays
+
     def test_directions(self) -> None:
         values, vectors = eigenvectors(numpy.array([[2.0, 1.0], [1.0, 2.0]]))
         numpy.testing.assert_allclose(values, [3, 1])

@@ -6,12 +6,15 @@ it, as its order of adding differs by machine and by the number of threads.
 from __future__ import annotations
 
 import math
+from collections.abc import Iterator, Sequence
+from itertools import groupby
 from random import Random
 
 import numpy
 
 from ..assign.net import Real
 
+BLOCK = 48  # rows or columns that are worked out at a time
 SWEEPS = 30  # of rotations, at most; a few are enough
 SMALL = 1e-15  # of the greatest: what is taken for 0 beside it
 ROUNDS = 4  # of a subspace, until it has the greatest directions
@@ -37,47 +40,86 @@ def summed_rows(rows: Real) -> Real:
 def product(matrix: Real, vector: Real) -> Real:
     """A matrix `[m, n]` times a vector `[n]`, or times a matrix `[n, k]`."""
     found = numpy.zeros((len(matrix), *vector.shape[1:]))
-    for column, part in zip(matrix.T, vector):
+    for column, part in zip(numpy.ascontiguousarray(matrix.T), vector):
         found += column * part if vector.ndim == 1 else column[:, None] * part[None, :]
     return found
 
 
 def gram(matrix: Real) -> Real:
-    """A matrix times its transpose."""
-    found = numpy.zeros((len(matrix), len(matrix)))
-    for column in numpy.ascontiguousarray(matrix.T):
-        used = numpy.flatnonzero(column)
-        if len(used) * 2 < len(column):
-            part = column[used]
-            found[numpy.ix_(used, used)] += part[:, None] * part[None, :]
+    """A matrix times its transpose. Each entry is a sum over the columns of the matrix in their order; the rows of the
+    result are worked out in blocks that stay in a processor's cache, and entries below the diagonal are copied."""
+    size, columns = len(matrix), numpy.ascontiguousarray(matrix.T)
+    found = numpy.zeros((size, size))
+    sparse = (numpy.count_nonzero(columns, axis=1) * 2 < size).tolist()
+    for few, first, end in runs(sparse):
+        if few:
+            for column in columns[first:end]:
+                used = numpy.flatnonzero(column)
+                part = column[used]
+                found[used[:, None], used] += part[:, None] * part
         else:
-            found += column[:, None] * column[None, :]
-    return found
+            for rows in blocks(size):
+                add_products(found[rows, rows.start :], columns[first:end, rows], columns[first:end, rows.start :])
+    return numpy.triu(found) + numpy.triu(found, 1).T
+
+
+def runs(kinds: Sequence[bool]) -> Iterator[tuple[bool, int, int]]:
+    """Neighbours of one kind: the kind, the first place, and the place behind the last."""
+    first = 0
+    for kind, some in groupby(kinds):
+        end = first + len(list(some))
+        yield kind, first, end
+        first = end
+
+
+def blocks(size: int) -> list[slice]:
+    """Places from 0 on in blocks."""
+    return [slice(first, min(size, first + BLOCK)) for first in range(0, size, BLOCK)]
+
+
+def add_products(found: Real, left: Real, right: Real, operation: numpy.ufunc = numpy.add) -> None:
+    """Adds to a matrix `[m, n]` the outer products of the rows of `left`, `[k, m]`, and `right`, `[k, n]`, one after
+    another; or subtracts them."""
+    room = numpy.empty(found.shape)
+    for one, other in zip(left[:, :, None], right):
+        numpy.multiply(one, other, out=room)
+        operation(found, room, out=found)
 
 
 class Factor:
     """The factor L of a positive definite matrix L L'."""
 
     def __init__(self, matrix: Real) -> None:
-        lower = matrix.copy()
-        for k in range(len(lower)):
-            lower[k, k] = math.sqrt(lower[k, k])
-            lower[k + 1 :, k] /= lower[k, k]
-            rest = lower[k + 1 :, k]
-            lower[k + 1 :, k + 1 :] -= rest[:, None] * rest[None, :]
+        lower = numpy.tril(matrix)
+        for some in blocks(len(lower)):
+            panel, width = lower[some.start :, some].copy(), some.stop - some.start
+            before = numpy.ascontiguousarray(lower[some.start :, : some.start].T)
+            add_products(panel, before, before[:, :width], numpy.subtract)
+            for k in range(width):
+                panel[k, k] = math.sqrt(panel[k, k])
+                panel[k + 1 :, k] /= panel[k, k]
+                panel[k + 1 :, k + 1 :] -= panel[k + 1 :, k, None] * panel[k + 1 : width, k]
+            lower[some.start :, some] = panel
         self.lower = numpy.tril(lower)
+        self.upper = numpy.ascontiguousarray(self.lower.T)
 
     def solve(self, right: Real) -> Real:
         """What the matrix times it is this vector `[n]`, or these columns `[n, k]`."""
-        found, lower = right.copy(), self.lower
-        for k in range(len(lower)):
-            found[k] /= lower[k, k]
-            rest = lower[k + 1 :, k]
-            found[k + 1 :] -= rest * found[k] if found.ndim == 1 else rest[:, None] * found[k][None, :]
-        for k in range(len(lower) - 1, -1, -1):
-            found[k] /= lower[k, k]
-            rest = lower[k, :k]
-            found[:k] -= rest * found[k] if found.ndim == 1 else rest[:, None] * found[k][None, :]
+        if right.ndim == 1:
+            return self.solve(right[:, None])[:, 0]
+        found = numpy.empty(right.shape)
+        for some in blocks(right.shape[1]):
+            found[:, some] = self._solved(right[:, some].T.copy()).T
+        return found
+
+    def _solved(self, found: Real) -> Real:
+        """The same for some columns, given as rows whose place it takes."""
+        for k in range(found.shape[1]):
+            found[:, k] /= self.upper[k, k]
+            found[:, k + 1 :] -= self.upper[k, k + 1 :] * found[:, k, None]
+        for k in range(found.shape[1] - 1, -1, -1):
+            found[:, k] /= self.lower[k, k]
+            found[:, :k] -= self.lower[k, :k] * found[:, k, None]
         return found
 
 

@@ -72,9 +72,11 @@ class Loader:
         times: Sequence[Timed],
         paths: Sequence[Sequence[str]],
         program: Program,
+        case: Case | None = None,
     ) -> None:
+        """`case` is what stands in the folder, where it is known already."""
         self.counts, self.times, self.paths = counts, times, paths
-        self.case = Case.read(folder)
+        self.case = case or Case.read(folder)
         self.links = {link.name: link for link in self.case.links}
         self.order = {link.name: place for place, link in enumerate(self.case.links)}
         self.opened_with = numpy.array([row.units for row in self.case.demand], dtype=numpy.int64)

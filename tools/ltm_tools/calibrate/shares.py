@@ -11,8 +11,9 @@ import numpy
 
 from ..assign.engine import Counts
 from ..assign.exits import Gates, leaving, setting_out
-from ..assign.net import Net, Real, Whole
+from ..assign.net import Net, Real, Truth, Whole
 from ..counting.counts import Count, Point
+from .linear import summed_rows
 from .unknowns import Unknown
 
 
@@ -57,26 +58,20 @@ def boundary_before(net: Net, moments: Whole) -> tuple[Whole, Real]:
 
 
 class Watched:
-    """What counters see: of each point of a count its link, and by the boundary at which one enters that link the part
-    of a vehicle that the count has of it. At boundary k these are the places from `first[k]` on."""
+    """What counters see: of each point of a count its link, by its place in `Ranked`, and by the boundary at which one
+    enters that link the part of a vehicle that the count has of it."""
 
-    def __init__(self, net: Net, moments: Moments, counts: Sequence[Count]) -> None:
+    def __init__(self, net: Net, moments: Moments, ranked: Ranked, counts: Sequence[Count]) -> None:
         points = [(number, point) for number, count in enumerate(counts) for point in count.points]
         self.count = [number for number, _ in points]
-        self.link = numpy.array([net.place[point.link] for _, point in points], dtype=numpy.int64)
-        boundaries, places, parts = [numpy.zeros(0, numpy.int64)], [numpy.zeros(0, numpy.int64)], [numpy.zeros(0)]
-        for place, (number, point) in enumerate(points):
+        self.link = ranked.place[[net.place[point.link] for _, point in points]]
+        self.parts: list[tuple[Whole, Real]] = []  # of each point boundaries, and the part of what enters then
+        for number, point in points:
             within = weights(net, counts[number])
             first, later = boundary_before(net, passing(net, moments, point))
             part = within[first] * (1 - later) + within[first + 1] * later
-            seen = numpy.flatnonzero(part)
-            boundaries.append(seen)
-            places.append(numpy.full(len(seen), place))
-            parts.append(part[seen])
-        boundary = numpy.concatenate(boundaries)
-        order = numpy.argsort(boundary, kind="stable")
-        self.place, self.part = numpy.concatenate(places)[order], numpy.concatenate(parts)[order]
-        self.first = numpy.searchsorted(boundary[order], numpy.arange(net.slots + 2)).tolist()
+            boundaries = numpy.flatnonzero(part)
+            self.parts.append((boundaries, part[boundaries]))
 
 
 def passing(net: Net, moments: Moments, point: Point) -> Whole:
@@ -104,17 +99,16 @@ def counted_shares(
 ) -> Real:
     """`[counts, unknowns]`: the vehicles counted for a vehicle of the unknown."""
     found = numpy.zeros((len(counts), len(unknowns)))
-    watched, ranked = Watched(net, moments, counts), Ranked(net, splits, moments)
+    ranked = Ranked(net, splits, moments)
+    watched = Watched(net, moments, ranked, counts)
     number = {name: place for place, name in enumerate(net.node_names)}
     for end, name in enumerate(net.end_names):
         mine = [place for place, one in enumerate(unknowns) if one.destination == name]
         if not mine:
             continue
-        start = numpy.zeros((net.slots + 3, len(net.node_names), len(mine)))
-        for column, place in enumerate(mine):
-            origin = number[unknowns[place].origin]
-            start[:, origin, column] = set_out(net, moments, unknowns[place], origin)
-        for count, row in zip(watched.count, sweep(ranked, watched, end, start)):
+        origins = [number[unknowns[place].origin] for place in mine]
+        start = [set_out(net, moments, unknowns[place], origin) for place, origin in zip(mine, origins)]
+        for count, row in zip(watched.count, sweep(ranked, watched, end, origins, numpy.array(start).T)):
             found[count, mine] += row
     return found
 
@@ -138,38 +132,76 @@ class Ranked:
     def __init__(self, net: Net, splits: SplitParts, moments: Moments) -> None:
         self.net, self.period, order = net, splits.period, numpy.concatenate(net.into)
         self.groups = numpy.cumsum([len(group) for group in net.into])
-        self.tail, self.head, self.links = net.tail[order], net.head[order], order
+        self.tail, self.head, self.place = net.tail[order], net.head[order], numpy.argsort(order)
         self.parts = splits.parts[:, order]
         self.boundary, self.part = moments.boundary[:, order], moments.part[:, order]
 
 
-def sweep(ranked: Ranked, watched: Watched, end: int, at_nodes: Real) -> Real:
-    """Pushes what sets out at nodes for a destination over the links, boundary by boundary; gives what is counted of it
-    at each watched point, `[points, unknowns]`."""
-    net, parts = ranked.net, ranked.parts[:, :, end]
-    found, entering = (numpy.zeros((size, at_nodes.shape[2])) for size in (len(watched.link), len(net.names)))
-    busy, origins = numpy.zeros(at_nodes.shape[:2], dtype=bool), list(net.origins)
-    busy[:, origins] = at_nodes[:, origins].any(axis=2)
+class Lanes:
+    """Where the vehicles of some unknowns for one destination may be: a lane is a node, or a link, with an unknown that
+    can come to it. Those of links stand in the order of `Ranked`, with the lanes of nodes at their two ends."""
+
+    def __init__(self, ranked: Ranked, end: int, origins: Sequence[int]) -> None:
+        net = ranked.net
+        used = (ranked.parts[:, :, end] > 0).any(axis=0) & (ranked.tail != net.ends[end])
+        comes = {origin: reached(ranked, used, origin) for origin in sorted(set(origins))}
+        self.node = numpy.full((len(origins), len(net.node_names)), -1, dtype=numpy.int64)
+        for column, origin in enumerate(origins):
+            self.node[column, comes[origin]] = 0
+        self.nodes = numpy.count_nonzero(self.node == 0)
+        self.node[self.node == 0] = numpy.arange(self.nodes)
+        links = numpy.flatnonzero(used)
+        self.link, self.column = numpy.nonzero(self.node[:, ranked.tail[links]].T >= 0)
+        self.link = links[self.link]
+        self.tail = self.node[self.column, ranked.tail[self.link]]
+        self.head = self.node[self.column, ranked.head[self.link]]
+        self.groups = numpy.searchsorted(self.link, ranked.groups)
+
+
+def reached(ranked: Ranked, used: Truth, origin: int) -> Truth:
+    """Of each node whether vehicles of an origin come to it over these links."""
+    found = numpy.zeros(len(ranked.net.node_names), dtype=bool)
+    found[origin], before = True, 0
+    while (number := int(found.sum())) > before:
+        before = number
+        found[ranked.head[used & found[ranked.tail]]] = True
+    return found
+
+
+def sweep(ranked: Ranked, watched: Watched, end: int, origins: Sequence[int], start: Real) -> Real:
+    """Pushes what sets out of these origins by boundary, `[slots + 3, unknowns]`, for a destination over the links,
+    boundary by boundary; gives what is counted of each unknown at each watched point, `[points, unknowns]`."""
+    net, lanes = ranked.net, Lanes(ranked, end, origins)
+    at_nodes = numpy.zeros((net.slots + 3, lanes.nodes))
+    at_nodes[:, lanes.node[range(len(origins)), list(origins)]] = start
+    parts, row = ranked.parts[:, lanes.link, end], at_nodes.shape[1]
+    seen = numpy.flatnonzero(numpy.isin(lanes.link, watched.link))
+    kept, flat = numpy.zeros((net.slots + 1, len(seen))), at_nodes.ravel()
     for k in range(net.slots + 1):
-        busy[k, net.ends[end]] = False
-        part = parts[ranked.period[k]]
-        links = numpy.flatnonzero(busy[k, ranked.tail] & (part > 0))
-        if not len(links):
+        if not at_nodes[k].any():
             continue
-        out = at_nodes[k, ranked.tail[links]] * part[links, None]
-        seen = slice(watched.first[k], watched.first[k + 1])
-        if seen.start < seen.stop:
-            entering[ranked.links[links]] = out
-            places = watched.place[seen]
-            found[places] += entering[watched.link[places]] * watched.part[seen, None]
-            entering[ranked.links[links]] = 0
-        later = out * ranked.part[k, links][:, None]
+        entering = at_nodes[k].take(lanes.tail) * parts[ranked.period[k]]
+        kept[k] = entering[seen]
+        busy = numpy.flatnonzero(entering)
+        links, out = lanes.link[busy], entering[busy]
+        later = out * ranked.part[k, links]
         out -= later
-        whens, heads = ranked.boundary[k, links], ranked.head[links]
-        busy[whens, heads] = busy[whens + 1, heads] = True
-        edges = numpy.searchsorted(links, ranked.groups).tolist()
+        places = ranked.boundary[k, links] * row + lanes.head[busy]
+        edges = numpy.searchsorted(busy, lanes.groups).tolist()
         for some in map(slice, [0, *edges[:-1]], edges):
             if some.start < some.stop:
-                at_nodes[whens[some], heads[some]] += out[some]
-                at_nodes[whens[some] + 1, heads[some]] += later[some]
+                flat[places[some]] += out[some]
+                flat[places[some] + row] += later[some]
+    return counted_of(watched, lanes.link[seen], lanes.column[seen], kept, len(origins))
+
+
+def counted_of(watched: Watched, links: Whole, columns: Whole, entered: Real, number: int) -> Real:
+    """What is counted of each of so many unknowns at each watched point, by what enters links at each boundary, in
+    lanes with these links, in order, and unknowns."""
+    found = numpy.zeros((len(watched.link), number))
+    firsts = numpy.searchsorted(links, watched.link, side="left").tolist()
+    ends = numpy.searchsorted(links, watched.link, side="right").tolist()
+    for place, (first, end, (boundaries, part)) in enumerate(zip(firsts, ends, watched.parts)):
+        if first < end:
+            found[place, columns[first:end]] = summed_rows(entered[boundaries, first:end] * part[:, None])
     return found

@@ -158,7 +158,8 @@ class Effects:
         found = numpy.zeros((self.size, len(by_unknowns)))
         for part, of, first, end in self.groups:
             group = numpy.zeros((end - first, len(by_unknowns)))
-            numpy.add.at(group, of, scaled)
+            for place, row in zip(of.tolist(), scaled):
+                group[place] += row
             found[first:end] = part * group
         return numpy.ascontiguousarray(found.T)
 
