@@ -11,7 +11,7 @@ from ..counting.validating import Met, MetTime, Validation
 from ..files import read_bytes, write_bytes, write_text
 from ..formats import clock_text
 from ..listing import Cell, csv_text, rounded, seconds, vehicles
-from .search import Iteration, Trial, Search
+from .search import Iteration, Search, Target, Trial
 from .spread import Spread
 
 FIT_FILE, DEMAND_FILE, ITERATIONS_FILE = "fit.csv", "demand_fit.csv", "iterations.csv"
@@ -27,10 +27,10 @@ def found_case(search: Search, point: Trial) -> Case:
     return made
 
 
-def validation(search: Search, point: Trial) -> Validation:
+def validation(target: Target, point: Trial) -> Validation:
     """The fit of a loading to all counts and times."""
-    met = tuple(Met(count, units) for count, units in zip(search.target.counts, point.loaded.counts))
-    times = tuple(MetTime(one, took) for one, took in zip(search.target.measured, point.loaded.times))
+    met = tuple(Met(count, units) for count, units in zip(target.counts, point.loaded.counts))
+    times = tuple(MetTime(one, took) for one, took in zip(target.measured, point.loaded.times))
     return Validation(met, times)
 
 
@@ -85,7 +85,7 @@ def write_result(
     found_case(search, point).write(to)
     for name, data in beside.items():
         write_bytes(os.path.join(to, name), data)
-    rows = [cells(met, start) for met in validation(search, point).met]
+    rows = [cells(met, start) for met in validation(search.target, point).met]
     write_text(os.path.join(to, FIT_FILE), csv_text(FIT_FIELDS, rows))
     unknowns = unknown_rows(search, point, spread, start)
     write_text(os.path.join(to, DEMAND_FILE), csv_text(DEMAND_FIELDS, unknowns))

@@ -63,14 +63,15 @@ class Trial(NamedTuple):
 
 
 class Iteration(NamedTuple):
-    """An iteration: its number, the loadings so far, the best so far, the part of the way that was gone, and by which
-    slopes."""
+    """An iteration: its number, the loadings so far, the best so far, the part of the way that was gone, by which
+    slopes, and the relative gap of its routes in per cent where they are assigned."""
 
     number: int
     loadings: int
     best: Trial
     size: float
     way: str
+    gap: float | None = None
 
 
 class Target:
@@ -114,7 +115,7 @@ class Search:
         self.folder = self.stack.enter_context(tempfile.TemporaryDirectory(prefix="ltm_calibrate_"))
         self.case.write(self.folder)
         self.loaders = [
-            self.stack.enter_context(Loader(self.folder, *self.asked, program))
+            self.stack.enter_context(Loader(self.folder, *self.asked, program, self.case))
             for _ in range(max(1, options.processes))
         ]
         self.elsewhere = 0  # loadings by a cluster
@@ -135,6 +136,11 @@ class Search:
         """Ends all sessions, as after an interrupt; others take their place when they are asked."""
         for loader in self.loaders:
             loader.restart()
+
+    @property
+    def found(self) -> Search | None:
+        """The search that has the best so far: this one, once there is one."""
+        return None if self.best is None else self
 
     @property
     def loadings(self) -> int:
@@ -195,19 +201,23 @@ class Search:
         for direction in steps:
             away = float(numpy.abs(self.effects.changes(direction) / self.effects.scale).max())
             sizes.append(min(LONGEST, FURTHEST / max(1e-9, away)))
-        found = slopes.copy()
+        columns = slopes.T.copy()  # one after another in memory, as products go over them
         points = self.all_at([point.effects + size * step for size, step in zip(sizes, steps)])
         for size, step, other in zip(sizes, steps, points):
             response = (point.misfits - other.misfits) / size
-            found += (response - product(found, step))[:, None] * step[None, :]
-        return found
+            columns += step[:, None] * (response - product(columns.T, step))[None, :]
+        return numpy.ascontiguousarray(columns.T)
+
+    def goal(self, point: Trial, slopes: Real) -> Real:
+        """The effects of the least sum if slopes stay."""
+        gap = point.misfits + product(slopes, point.effects)
+        solved = Factor(gram(slopes) + numpy.eye(len(slopes))).solve(gap)
+        return summed_rows(slopes * solved[:, None])
 
     def step(self, point: Trial, slopes: Real) -> tuple[Trial, float]:
         """Where slopes lead: to the least sum if they stay, or half of the way and so on, until the sum falls; with the
         part of the way, 0 where it does not."""
-        gap = point.misfits + product(slopes, point.effects)
-        solved = Factor(gram(slopes) + numpy.eye(len(slopes))).solve(gap)
-        goal, size = summed_rows(slopes * solved[:, None]), 1.0
+        goal, size = self.goal(point, slopes), 1.0
         while True:
             new = self.at(point.effects + size * (goal - point.effects))
             if new.value < point.value:

@@ -19,7 +19,7 @@ from ..errors import Fault
 from ..files import output_folder
 from ..formats import MINUTE_MS, count_text, counted, vehicles_text
 from ..listing import HOURS, rounded
-from ..loading.loaded import loaded
+from ..loading.loaded import made_by_program
 from ..case.source import path_named
 from ..replacing import together
 from .arguments import (
@@ -34,6 +34,7 @@ from .arguments import (
 from .validate import fits, reader_of, worst
 
 if TYPE_CHECKING:
+    from ..calibrate.routes import Rounds
     from ..calibrate.search import Iteration, Trial, Search
     from ..calibrate.spread import Spread
 
@@ -88,6 +89,21 @@ def add_arguments(parser: argparse.ArgumentParser) -> None:
     parser.add_argument("--errors", metavar="FILE", help="how wrong the prior may be: a table effect,error")
     parser.add_argument("--iterations", type=whole, default=6, metavar="N", help="how many iterations at most (6)")
     parser.add_argument(
+        "--rounds",
+        type=whole,
+        default=0,
+        metavar="N",
+        help="at most so many iterations, in each of which routes are assigned to the demand, in place of --iterations"
+        " on the case's own splits",
+    )
+    parser.add_argument(
+        "--period",
+        type=minutes,
+        default=5 * MINUTE_MS,
+        metavar="MINUTES",
+        help="with --rounds: how long turning fractions stay the same (5)",
+    )
+    parser.add_argument(
         "--directions",
         type=whole,
         default=32,
@@ -118,6 +134,7 @@ def run(args: argparse.Namespace) -> int:
 def calibrate(args: argparse.Namespace) -> None:
     """Seeks the demand, and writes what was found."""
     from ..calibrate.result import validation, write_result
+    from ..calibrate.routes import ROUTES, Rounds
     from ..calibrate.search import Search
     from ..calibrate.spread import spread_of
 
@@ -129,23 +146,28 @@ def calibrate(args: argparse.Namespace) -> None:
     prior, options, counts = asked(args, case, counts)
     done: list[Iteration] = []
     spread: Spread | None = None
-    with Search(prior, counts, timed, paths, options, args.program) as search:
+    seeker: Search | Rounds = Search(prior, counts, timed, paths, options, args.program)
+    if args.rounds:
+        routes = replace(ROUTES, period_ms=args.period)
+        seeker = Rounds(prior, counts, timed, paths, options, args.program, args.rounds, routes)
+    with seeker:
         try:
-            for line in tell_iterations(search, done, notes, start, args):
+            for line in tell_iterations(seeker, done, notes, start, args):
                 print(line, flush=True)
-            if args.samples:
-                spread = spread_of(search, args.samples)
+            if args.samples and seeker.found is not None:
+                spread = spread_of(seeker.found, args.samples)
         except KeyboardInterrupt:
-            if search.best is None:
+            if seeker.found is None:
                 raise
-            search.restart()
+            seeker.restart()
             print("stopped: the best so far is kept", flush=True)
-        assert search.best is not None
+        search = seeker.found
+        assert search is not None and search.best is not None
         with together():
             write_result(args.case, args.folder, search, search.best, done, spread, start)
-        best = validation(search, search.best)
+        best = validation(search.target, search.best)
         print(fits(best) + "\n" + worst(best, start, case.streets(args.case)), end="")
-        for line in ending(search, spread, done, args.iterations):
+        for line in ending(search, spread, done, args):
             print(line)
 
 
@@ -154,8 +176,8 @@ def check_options(args: argparse.Namespace) -> None:
     for name, values in (("hold", range(0, 91)), ("processes", range(1, 65)), ("samples", range(0, 1001))):
         if getattr(args, name) not in values:
             raise Fault(f"--{name} is from {values[0]} to {values[-1]}")
-    if args.iterations < 0 or args.directions < 0:
-        raise Fault("--iterations and --directions are not below 0")
+    if min(args.iterations, args.directions, args.rounds) < 0:
+        raise Fault("--iterations, --directions and --rounds are not below 0")
 
 
 def asked(args: argparse.Namespace, case: Case, counts: list[Count]):  # type: ignore[no-untyped-def]
@@ -185,25 +207,25 @@ def held_out(counts: list[Count], percent: int) -> list[Count]:
 
 
 def tell_iterations(
-    search: Search, done: list[Iteration], notes: Sequence[str], start: int, args: argparse.Namespace
+    seeker: Search | Rounds, done: list[Iteration], notes: Sequence[str], start: int, args: argparse.Namespace
 ) -> Iterator[str]:
     """A line for each iteration, which are put into `done`; before the second what is suspicious, on the standard
     error."""
     from ..calibrate.result import validation
 
-    began, wanted = time.monotonic(), search.target
+    began, wanted = time.monotonic(), seeker.target
     held = len(wanted.counts) - len(wanted.chosen)
     yield (
-        f"{counted(len(search.prior.unknowns), 'unknown')}, {count_text(len(wanted.chosen))} counts to fit, {held} held"
+        f"{counted(len(seeker.prior.unknowns), 'unknown')}, {count_text(len(wanted.chosen))} counts to fit, {held} held"
         f" out, {counted(len(wanted.timed), 'time')}"
     )
     yield HEADER
-    for one in search.run():
+    for one in seeker.run():
         done.append(one)
-        fit = validation(search, one.best)
+        fit = validation(wanted, one.best)
         if len(done) == 1:
-            one_case = loaded(args.case, None, args.program)
-            for line in (*notes, *doubts(fit.met, one_case.case, one_case.curves, start)):
+            prior = made_by_program(seeker.prior.case, args.case, args.program)
+            for line in (*notes, *doubts(fit.met, prior.case, prior.curves, start)):
                 print(line, file=sys.stderr)
         yield iteration_line(one, fit, time.monotonic() - began)
         began = time.monotonic()
@@ -223,10 +245,11 @@ def iteration_line(one: Iteration, fit: object, took: float) -> str:
     return (
         f"{one.number:>3} {one.loadings:>8} {point.of_counts:>11.2f} {point.value - point.of_counts:>9.2f}"
         f" {parts[0]} {parts[1]} {HOURS.show(point.loaded.hours.queued):>10} {took:>8.2f}  {one.way}"
+        + ("" if one.gap is None else f", relative gap {one.gap:.2f} %")
     )
 
 
-def ending(search: Search, spread: Spread | None, done: Sequence[Iteration], most: int) -> Iterator[str]:
+def ending(search: Search, spread: Spread | None, done: Sequence[Iteration], args: argparse.Namespace) -> Iterator[str]:
     """What is told at the end: totals, the range, how much is known, and what is suspicious."""
     point, begun = search.best, search.begun
     assert point is not None and begun is not None
@@ -250,8 +273,13 @@ def ending(search: Search, spread: Spread | None, done: Sequence[Iteration], mos
     far = sum(count > MOST_TIMES_PRIOR * one.units for one, count in zip(search.prior.unknowns, units))
     if far:
         yield f"{counted(far, 'unknown')} at more than {MOST_TIMES_PRIOR} times the prior: see demand_fit.csv"
+    word = "round" if args.rounds else "iteration"
+    most = args.rounds or args.iterations
     if most and done[-1].number == most and done[-1].best.value < STILL_FALLS * done[-2].best.value:
-        yield f"the last of {counted(most, 'iteration')} still came much nearer: give more --iterations"
+        yield f"the last of {counted(most, word)} still came much nearer: give more --{word}s"
+    if args.rounds:
+        kept = next(one.number for one in done if one.best is point)
+        yield f"round {kept} is kept, whose demand meets the counts best on its own routes; round 0 is the prior"
     misfit = point.of_counts / len(search.target.errors)
     if misfit > 1:
         yield (
