@@ -6,6 +6,7 @@ from .kept import Script
 from .messages import Make, Told
 from .scenario import Scenario
 from .scenes import Scenes
+from .strip import Strip
 
 
 class Changing:
@@ -36,10 +37,11 @@ class Changing:
         if make.what not in ("back", "again"):
             self.history.note(by, before, scenario.entries, whole=make.what == "recall")
 
-    def keep(self, make: Make, costs: Told) -> bool:
-        """Keeps the list with its costs under a name, or removes what was kept under it: whether that was asked for."""
+    def keep(self, make: Make, costs: Told, strip: Strip) -> bool:
+        """Keeps the list with its costs and its loading under a name, or removes what was kept under it: whether that
+        was asked for."""
         if make.what == "keep":
-            self.scenes.keep(make.edit["name"], self.scenario.entries, costs)
+            self.scenes.keep(make.edit["name"], self.scenario.entries, costs, strip.places, strip.moments)
         elif make.what == "drop":
             self.scenes.drop(make.edit["name"])
         return make.what in ("keep", "drop")

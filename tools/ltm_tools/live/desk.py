@@ -42,6 +42,7 @@ class Browser(Protocol):
     picked: tuple[str, str] | None  # what it has picked: a `link`, a `node` or an `approach`, and its name
     shown: tuple[int, tuple[str, str] | None]  # the revision and the pick of the curves that it has
     pending: int
+    beside: str | None  # the scenario that it is shown beside the list
     route: Route  # the links that it has put together
     routed: tuple[int, Route]  # the revision and the links of the route that it has
 
@@ -161,17 +162,19 @@ class Desk:
             if anew:
                 await self.count()
             for browser, make in jobs:
-                self.keep(browser, make)
+                await self.keep(browser, make)
             await self.call(self.scenario.renew)
         finally:
             for browser, _ in jobs:
                 browser.pending -= 1
 
-    def keep(self, browser: Browser, make: Make) -> None:
+    async def keep(self, browser: Browser, make: Make) -> None:
         """Keeps what is shown under a name, or removes what was kept, where that is asked for."""
         costs = self.costs.get("costs")
+        while make.what == "keep" and self.strip.is_due:
+            self.tell_once(await self.call(self.strip.more))
         try:
-            if self.changing.keep(make, costs if isinstance(costs, dict) else {}):
+            if self.changing.keep(make, costs if isinstance(costs, dict) else {}, self.strip):
                 self.tell(self.changing.scenes.told())
         except Fault as fault:
             self.refuse(browser, make, fault)
@@ -286,6 +289,8 @@ class Desk:
         for browser in list(self.browsers):
             if browser.wanted:
                 browser.wanted = False
+                if (scene := self.changing.scenes.beside(browser.beside)) is not None:
+                    browser.send(await self.call(partial(scene.frame, browser.boundary, self.scenario.base.at)))
                 browser.send(await self.call(partial(self.scenario.frame, browser.boundary, browser.since)))
         for browser in list(self.browsers):
             wanted = (self.scenario.revision, browser.picked)

@@ -1,10 +1,11 @@
 """What browsers and the server tell one another: texts of JSON objects, and frames.
 
 A browser tells `token`, once and first; then `see` with a boundary, and with `since` one before it for flows, `pick`
-with a link or node or none, `route` with the names of links one behind the other or none, `edit` with a change (see the
-module `asks`), which with `amend` replaces that of an entry by its number, `undo` with the number of an entry, `switch`
-with that and whether it is `on`, `back` and `again` to undo and redo what it changed last, `stop` with what it calls a
-change for which shares are sought, and `keep`, `recall` and `drop` with the name of a scenario.
+with a link or node or none, `route` with the names of links one behind the other or none, `beside` with the name of a
+scenario that is to be shown beside the list or none, `edit` with a change (see the module `asks`), which with `amend`
+replaces that of an entry by its number, `undo` with the number of an entry, `switch` with that and whether it is `on`,
+`back` and `again` to undo and redo what it changed last, `stop` with what it calls a change for which shares are
+sought, and `keep`, `recall` and `drop` with the name of a scenario.
 """
 from __future__ import annotations
 

@@ -1,11 +1,13 @@
 """Scenarios that are kept under a name to be set side by side: the list of each, and its effect as it was told."""
 from __future__ import annotations
 
+from bisect import bisect_right
 from collections.abc import Sequence
 from dataclasses import dataclass
 
 from ..errors import Fault
 from .entries import Entry
+from .frames import Boundary, frame
 from .messages import Told
 
 MOST = 5
@@ -19,6 +21,14 @@ class Scene:
     name: str
     entries: tuple[Entry, ...]
     costs: Told
+    places: Sequence[int] = ()
+    moments: Sequence[Boundary] = ()  # the loading at these boundaries
+
+    def frame(self, boundary: int, base: Sequence[Boundary]) -> bytes:
+        """A frame of the last of its moments up to a boundary, beside the base there; its revision is -1."""
+        at = max(0, bisect_right(self.places, boundary) - 1)
+        place = self.places[at]
+        return frame(-1, place, self.moments[at], base[place])
 
 
 class Scenes:
@@ -27,14 +37,22 @@ class Scenes:
     def __init__(self) -> None:
         self.kept: list[Scene] = []
 
-    def keep(self, name: object, entries: Sequence[Entry], costs: Told) -> None:
-        """Keeps a list under a name, in place of the one that has it; a Fault where it cannot be kept."""
+    def keep(
+        self,
+        name: object,
+        entries: Sequence[Entry],
+        costs: Told,
+        places: Sequence[int] = (),
+        moments: Sequence[Boundary] = (),
+    ) -> None:
+        """Keeps a list under a name, in place of the one that has it, with its loading at some boundaries; a Fault
+        where it cannot be kept."""
         if not isinstance(name, str) or not 0 < len(name) <= MOST_NAME:
             raise Fault(f"The name of a scenario has 1 to {MOST_NAME} characters.")
         others = [scene for scene in self.kept if scene.name != name]
         if len(others) >= MOST:
             raise Fault(f"At most {MOST} scenarios are kept. Remove one first.")
-        made = Scene(name, tuple(entries), costs)
+        made = Scene(name, tuple(entries), costs, tuple(places), tuple(moments))
         self.kept = [made if scene.name == name else scene for scene in self.kept]
         if len(others) == len(self.kept):
             self.kept.append(made)
@@ -45,6 +63,10 @@ class Scenes:
             if scene.name == name:
                 return scene
         raise Fault("No scenario has this name any more.")
+
+    def beside(self, name: str | None) -> Scene | None:
+        """The scenario of a name with its loading; None where there is none of both."""
+        return next((scene for scene in self.kept if scene.name == name and scene.moments), None)
 
     def drop(self, name: object) -> None:
         """Removes a scenario."""

@@ -137,6 +137,7 @@ class Socket(Guarded, tornado.websocket.WebSocketHandler):
     shown: tuple[int, tuple[str, str] | None] = (-1, None)
     route: Route = ()
     routed: tuple[int, Route] = (-1, ())
+    beside: str | None = None
     known, counted, may_change = False, False, False
     waits: object = None
 
@@ -169,6 +170,9 @@ class Socket(Guarded, tornado.websocket.WebSocketHandler):
             self.ask(make)
         elif "pick" in told:
             self.pick(told["pick"])
+        elif "beside" in told:
+            self.beside, self.wanted = told["beside"] if isinstance(told["beside"], str) else None, True
+            self.site.desk.look()
         elif "route" in told:
             self.follow(told["route"])
         elif "stop" in told:

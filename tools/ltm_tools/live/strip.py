@@ -21,6 +21,7 @@ class Strip:
         self.places = [*range(0, scenario.slots, self.stride), scenario.slots]
         self.now: list[int] = []
         self.differs: list[int] = []
+        self.moments: list[Boundary] = []
         self.told: Told = {}
 
     @property
@@ -33,10 +34,11 @@ class Strip:
         """Asks for a piece of it; what browsers are told once it is whole."""
         scenario = self.scenario
         if self.revision != scenario.revision:
-            self.revision, self.now, self.differs = scenario.revision, [], []
+            self.revision, self.now, self.differs, self.moments = scenario.revision, [], [], []
         scenario.renew()
         for place in self.places[len(self.now) : len(self.now) + PIECE]:
             here, base = scenario.boundary(place), scenario.base.at[place]
+            self.moments.append(here)
             self.now.append(queued_in(here))
             self.differs.append(apart(here.queue, base.queue) + apart(here.waiting, base.waiting))
         if len(self.now) < len(self.places):

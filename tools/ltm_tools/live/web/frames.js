@@ -29,10 +29,10 @@ export class Frames {
   }
 
   show(words) {
-    const { state, map, times } = this.live, { links, nodes } = state.net;
+    const { live } = this, { state, times } = live, { links, nodes } = state.net;
     state.frame = frameOf(words, links.length, nodes.length);
     this.flying = !this.isThere() && this.ask();
-    map.draw();
+    live.draw();
     const one = times[times.length - 1];
     if (!one || one.drawn !== undefined || words[0] <= one.since) return;
     one.drawn = performance.now();

@@ -1,5 +1,6 @@
 // The page of `ltm-tools live`: what the server tells is shown, and what a user does is told to it. Counts are
 // thousandths of a vehicle, times milliseconds, vehicle times their product.
+import { Beside } from "./beside.js";
 import { CaseNetwork } from "./casenet.js";
 import { drawMoment } from "./chart.js";
 import { Frames } from "./frames.js";
@@ -13,7 +14,7 @@ import { Results } from "./results.js";
 import { Route } from "./route.js";
 import { Scenes } from "./scenes.js";
 import { Sights } from "./sights.js";
-import { Strip, differsOf } from "./strip.js";
+import { Strip } from "./strip.js";
 import { Wire, windowName } from "./wire.js";
 
 const $ = id => document.getElementById(id), FIRST_PART = 3;
@@ -30,7 +31,7 @@ export class Live {
     this.say = this.say.bind(this);
     this.frames = new Frames(this);
     this.wire = new Wire({ begun: () => ({ token, window: windowName() }), hear: told => this.hear(told),
-      show: words => this.frames.show(words), lost: told => this.lost(told) });
+      show: words => words[0] < 0 ? this.beside.show(words) : this.frames.show(words), lost: told => this.lost(told) });
     this.parts();
     listen(this);
   }
@@ -42,6 +43,8 @@ export class Live {
     this.sights = new Sights(state, { canvas: $("network"), tip: $("tip"), pick: what => this.picking.pick(what),
       along: () => this.route.links });
     this.map = this.sights.map;
+    this.beside = new Beside(this, { sheets: $("sheets"), choice: $("beside"), canvas: $("second"), tip: $("hint"),
+      caption: $("caption") });
     this.panel = new Panel(d3.select("#edit"), this);
     this.list = new List(d3.select("#list"), this);
     this.results = new Results(this, { totals: d3.select("#sums"), table: d3.select("#roads table"),
@@ -88,7 +91,7 @@ export class Live {
     if (told.notice !== undefined) this.say(told.notice, true);
     if (told.costs !== undefined) this.results.show({ ...told.costs, revision: told.revision });
     if (told.scenes !== undefined) this.scenes.show(told.scenes);
-    if (told.strip !== undefined) this.showStrip(told);
+    if (told.strip !== undefined) this.strip.take(told);
     if (told.route !== undefined) this.route.show(told);
     if (told.curve !== undefined) this.picking.showCurves(told);
   }
@@ -111,6 +114,7 @@ export class Live {
     document.title = `${told.name} live`;
     $("title").textContent = told.name;
     this.sights.offer();
+    this.beside.offer(this.scenes.scenes);
     this.sights.legend();  // which takes room from the map
     this.map.measure();
     this.frames.lost();
@@ -122,6 +126,7 @@ export class Live {
       this.frames.see(this.player.here());
       this.picking.tell();
       this.route.tell();
+      this.beside.tell();
     }
   }
 
@@ -136,16 +141,6 @@ export class Live {
   drawMoment() {
     drawMoment(d3.select("#curves"), this.net.start + this.player.here() * this.net.step);
     this.route.drawNow();
-  }
-
-  // Shows the strip, and after a change of one's own goes to where queues differ most.
-  showStrip({ strip, of }) {
-    this.state.strip = { ...strip, revision: of };
-    this.strip.show(strip);
-    const found = differsOf(strip);
-    if (of !== this.state.revision) return;  // of an earlier list
-    if (this.jumps && found !== null) this.player.show(found.most);
-    this.jumps = false;
   }
 
   // ---- the list
@@ -189,6 +184,11 @@ export class Live {
     this.state.shown = what;
     this.sights.legend();
     if (this.state.frame && !this.frames.isThere()) this.frames.see(this.player.here());
+    this.draw();
+  }
+
+  draw() {
     this.map.draw();
+    this.beside.draw();
   }
 }

@@ -30,7 +30,7 @@ export class Picking {
     live.panel.draw(described(live.net, live.state.picked, { road, share }));
     this.tell();
     live.results.table.mark();
-    live.map.draw();
+    live.draw();
   }
 
   // Makes room for the curves that are to come, so that nothing below moves when they are there.

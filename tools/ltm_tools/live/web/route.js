@@ -23,7 +23,7 @@ export function stretchesOf(rows, k) {
 }
 
 export class Route {
-  // `live` has `state`, `net`, `wire`, `map`, `player` and `say(text, bad)`.
+  // `live` has `state`, `net`, `wire`, `player`, `draw()` and `say(text, bad)`.
   constructor(box, button, live) {
     Object.assign(this, { box, button, live, on: false, links: [], told: null, rows: [] });
     button.on("click", () => this.turn(!this.on));
@@ -52,7 +52,7 @@ export class Route {
     Object.assign(this, { links, told: null, rows: [] });
     this.tell();
     this.draw();
-    this.live.map.draw();
+    this.live.draw();
   }
 
   // Asks for what the route takes, also after the connection was lost.

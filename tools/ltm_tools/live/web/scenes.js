@@ -4,7 +4,7 @@ import { cellsOf } from "./costs.js";
 const LETTERS = ["A", "B", "C", "D", "E"];
 
 export class Scenes {
-  // `live` has `state`, `wire`, `results` and `change(told)`.
+  // `live` has `state`, `wire`, `results`, `beside` and `change(told)`.
   constructor(box, live) {
     Object.assign(this, { box, live, scenes: [] });
     box.select("#keep").on("click", () => live.wire.send({ keep: this.free() }));
@@ -19,6 +19,7 @@ export class Scenes {
     this.scenes = scenes;
     this.draw();
     this.live.results.setScenes(scenes);
+    this.live.beside.offer(scenes);
   }
 
   draw() {

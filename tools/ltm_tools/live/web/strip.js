@@ -7,13 +7,13 @@ const LEAST_PART = 0.02;
 
 // From when to when queues differ from the base, and when most; null where they do not. What is less than a fiftieth
 // of the most is left out.
-export function differsOf({ at, differs }) {
+function differsOf({ at, differs }) {
   const most = Math.max(...differs), seen = at.filter((_, place) => differs[place] > most * LEAST_PART);
   return most === 0 ? null : { from: seen[0], to: seen[seen.length - 1], most: at[differs.indexOf(most)] };
 }
 
 export class Strip {
-  // `live` has `state`, `net`, `player` and `change(told)`.
+  // `live` has `state`, `net`, `player`, `jumps` and `change(told)`.
   constructor(box, words, live) {
     Object.assign(this, { box, words, live, held: null });
     this.svg = box.append("svg");
@@ -40,6 +40,16 @@ export class Strip {
     const box = this.svg.node().getBoundingClientRect(), x = event.clientX - box.left;
     const part = (x - LEFT) / this.wide;
     return Math.round(Math.max(0, Math.min(1, part)) * this.live.net.slots);
+  }
+
+  // Shows what is told, and after a change of one's own goes to where queues differ most.
+  take({ strip, of }) {
+    const { live } = this, found = differsOf(strip);
+    live.state.strip = { ...strip, revision: of };
+    this.show(strip);
+    if (of !== live.state.revision) return;  // of an earlier list
+    if (live.jumps && found !== null) live.player.show(found.most);
+    live.jumps = false;
   }
 
   show(strip) {

@@ -37,6 +37,8 @@ export class RoadMap {
 
   measure() {
     const box = this.canvas.getBoundingClientRect();
+    this.view.fit = null;
+    if (!box.width || !box.height) return;  // it is not shown
     this.dense = window.devicePixelRatio || 1;
     for (const one of [this.canvas, this.steady.canvas, this.moved.canvas]) {
       one.width = Math.round(box.width * this.dense);
@@ -154,6 +156,18 @@ export class RoadMap {
     const box = this.canvas.getBoundingClientRect(), { x, y } = this.shows.network().nodes[number];
     const [east, south] = this.view.at(x, y);
     return [east + box.left, south + box.top];
+  }
+
+  // Has another map show the same part as this one, whichever of both is moved.
+  linkTo(other) {
+    for (const [one, two] of [[this, other], [other, this]]) {
+      one.zoom.on("zoom.linked", () => two.follow(d3.zoomTransform(one.canvas)));
+    }
+  }
+
+  follow(zoom) {
+    const { k, x, y } = this.view.zoom;
+    if (k !== zoom.k || x !== zoom.x || y !== zoom.y) d3.select(this.canvas).call(this.zoom.transform, zoom);
   }
 
   // Zooms by a factor about the middle, or with none shows all again.
