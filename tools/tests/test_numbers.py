@@ -1,8 +1,8 @@
 """No number that was measured stands in two documents, where one of them would go stale.
 
 Held here are decimals of four digits and more, and those of three digits with a unit behind them, without the zeros
-around them; shorter ones meet by chance. A number within an output that a test runs cannot go stale, nor can the words of the same document about
-it; so two documents may show the same output."""
+around them; shorter ones meet by chance. A number within an output that a test runs cannot go stale, nor can the words
+of the same document about it; so two documents may show the same output."""
 import re
 import unittest
 from collections import defaultdict

@@ -67,7 +67,8 @@ class Archive(Packed):
         here = self.unpacked()
         done = self.install(here, self.folder / "into")
         self.assertEqual((done.returncode, (self.folder / "into").exists()), (1, False))
-        self.assertIn("ltm does not run on this machine: it needs Linux on x86_64 with glibc 2.34 or later", done.stderr)
+        needs = "ltm does not run on this machine: it needs Linux on x86_64 with glibc 2.34 or later"
+        self.assertIn(needs, done.stderr)
         self.assertIn("ltm: no such library", done.stderr)
         self.assertIn("It needs Linux on x86_64 with glibc 2.34 or later.", (here / "PROVED.md").read_text())
         wheels = [path.name for path in self.dist.glob("*.whl")]

@@ -155,7 +155,10 @@ def tell_iterations(rounds: Rounds, program: str | None, done: list[Iteration]) 
     yield HEADER
     for one in rounds.run(program):
         if done and one.round > done[-1].round:
-            yield f"round {one.round}: turns that yield get their part of the green by the traffic of the best iteration"
+            yield (
+                f"round {one.round}: turns that yield get their part of the green by the traffic of the best"
+                " iteration"
+            )
         done.append(one)
         now = time.monotonic()
         yield line_of(one, now - began)

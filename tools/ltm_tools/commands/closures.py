@@ -220,8 +220,8 @@ def text(
 ) -> Iterator[str]:
     """The table for people."""
     yield (
-        f"{counted(len(chosen), 'link')}, each closed by itself from {clock_text(args.first)} to {clock_text(args.end)}:"
-        " by how many vehicle hours the total travel time rises; `routes` is the part that the new route choice alone"
+        f"{counted(len(chosen), 'link')}, each closed by itself from {clock_text(args.first)} to"
+        f" {clock_text(args.end)}: by how many vehicle hours the total travel time rises; `routes` is the part that the new route choice alone"
         " makes, with the road open; `late` are vehicles that have not arrived by the end\n"
     )
     yield (

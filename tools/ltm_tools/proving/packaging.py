@@ -65,10 +65,10 @@ NOTE_TEXT = """# What is in this archive
 
 `ltm` {version}, built from commit {commit} and proved by {kit}.
 
-It needs {needs}. The program was built from crates that the prover accepted, whole. `ltm.sums` has the SHA-256 sum of the program and of
-each text that its proof rests on: check out that commit in a clone of the repository, and `sha256sum --check ltm.sums`
-compares the texts. What is proved, and on what it rests, stands in docs/CLAIMS.md of that commit. The tools
-(`ltm-tools`) are tested, not proved.
+It needs {needs}. The program was built from crates that the prover
+accepted, whole. `ltm.sums` has the SHA-256 sum of the program and of each text that its proof rests on: check out that
+commit in a clone of the repository, and `sha256sum --check ltm.sums` compares the texts. What is proved, and on what it
+rests, stands in docs/CLAIMS.md of that commit. The tools (`ltm-tools`) are tested, not proved.
 
 No licence has been chosen yet: all rights remain with the owner, so ask before you pass this archive on.
 """
