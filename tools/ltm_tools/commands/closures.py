@@ -221,8 +221,8 @@ def text(
     """The table for people."""
     yield (
         f"{counted(len(chosen), 'link')}, each closed by itself from {clock_text(args.first)} to"
-        f" {clock_text(args.end)}: by how many vehicle hours the total travel time rises; `routes` is the part that the new route choice alone"
-        " makes, with the road open; `late` are vehicles that have not arrived by the end\n"
+        f" {clock_text(args.end)}: by how many vehicle hours the total travel time rises; `routes` is the part that the"
+        " new route choice alone makes, with the road open; `late` are vehicles that have not arrived by the end\n"
     )
     yield (
         f"open: {HOURS.show(look.spent)} vehicle hours, relative gap {look.per_cent:.2f} %, late"
