@@ -1,5 +1,5 @@
 """The sections of the page, in order."""
-from . import answers, speeds, towns
+from . import answers, panning, speeds, towns
 from .page import Section
 
 SECTIONS = (
@@ -40,6 +40,13 @@ SECTIONS = (
         "slider.",
         answers.live,
         needs_sumo=True,
+    ),
+    Section(
+        "panning",
+        "The live map while it moves",
+        "Grids of roads in [the live map](LIVE.md), panned and played. It is meant to show 30 frames per second with "
+        "16,000 links on a machine that does nothing else, and to open them with 5 s of processor time of its server.",
+        panning.panning,
     ),
     Section(
         "assign",

@@ -4,10 +4,11 @@ import sys
 import unittest
 from unittest import mock
 
-from support import BUILT, CLONE, FolderTest, needs_program, script
+from made_live import needs_live
+from support import BUILT, CLONE, FolderTest, needs, needs_program, script
 from ltm_tools.case import Case
 from ltm_tools.errors import Fault
-from measuring import page, runs, speeds, tables
+from measuring import page, panning, runs, speeds, tables
 from measuring.made import Made, closures
 from measuring.page import Section
 from measuring.room import Room
@@ -45,6 +46,22 @@ class Costs(FolderTest):
         self.assertEqual([tables.figure(value) for value in (1234.5, 12.34, 1.234, 0.0123)],
                          ["1,234", "12.3", "1.23", "0.012"])  # fmt: skip
         self.assertEqual((tables.ratio(3, 2), tables.ratio(3, 0)), ("1.50", "-"))
+
+
+class Moving(FolderTest):
+    @needs("chromium", "chromium-driver")
+    @needs_live
+    @needs_program
+    def test_a_small_grid(self) -> None:
+        """It is panned and played in the browser: each of the three shows frames, none longer than all of them."""
+        made, room = Made("grid", 3, 3, 2, 60), Room(self.folder, BUILT, None, 1000.0)
+        with mock.patch.dict("os.environ", {"LTM": str(BUILT)}), mock.patch.object(panning, "LASTS", 300):
+            ((size, *cells),) = panning.table_of(room, (made,)).rows
+        first, there, cost, *moves = [float(cell.replace(",", "")) for cell in cells]
+        self.assertEqual((size, len(moves)), ("24, 60", 6))
+        self.assertTrue(0 < first <= there and cost > 0, cells)
+        for rate, longest in zip(moves[::2], moves[1::2]):
+            self.assertGreaterEqual(longest * rate, 995)  # 1,000 / rate is what a frame takes in the mean
 
 
 class Cases(FolderTest):
