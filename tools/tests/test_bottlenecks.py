@@ -1,6 +1,7 @@
 """What capacity is worth, on queues worked by hand, and on a junction where a longer green costs time."""
 import csv
 import unittest
+import unittest.mock
 from fractions import Fraction
 
 import commands
@@ -9,8 +10,10 @@ from support_assign import LINKS, SIGNALS
 from support_cluster import ClusterTest
 from ltm_tools.case import Case, Limit
 from ltm_tools.errors import Fault
-from ltm_tools.worth.capacity import ENTRY, ROAD, STOP_LINE, capacity_of, scaled
+from ltm_tools.scenario.rows import OwnRows
+from ltm_tools.worth.capacity import ENTRY, ROAD, STOP_LINE, Capacity, capacity_of, scaled
 from ltm_tools.worth.result import FIELDS, read_worths, savings
+from ltm_tools.worth.trials import Trials
 
 # Ten vehicles set out at once and stand at stop lines that let half a vehicle a second through, in steps of 1 s. At
 # a rate of c a second the queue is 10 - c k vehicles k seconds after the first has left, as long as that is above 0:
@@ -47,27 +50,30 @@ class Capacities(FolderTest):
     def test_what_holds_a_link(self) -> None:
         """Of the limits at both ends those at its end; limits that the road does not reach hold nothing."""
         case = Case.read(self.case(**QUEUE))
-        a, b = case.links
-        found = capacity_of(case, a, 0, 100)
+
+        def capacity(name: str) -> Capacity:
+            return capacity_of(case.setup, OwnRows(case), name, 0, 100)
+
+        found = capacity("a")
         self.assertEqual((found.kind, found.per_hour), (STOP_LINE, 1800))
-        found = capacity_of(case, b, 0, 100)
+        found = capacity("b")
         self.assertEqual((found.kind, found.per_hour), (ROAD, 7200))
         case.limits = [Limit("a", 0, 50, 1000), Limit("b", 0, 50, 1000)]
-        self.assertEqual([capacity_of(case, link, 0, 100).kind for link in (a, b)], [STOP_LINE, ENTRY])
-        self.assertEqual(capacity_of(case, b, 0, 100).per_hour, 5400)  # half of the time a vehicle a second, half two
+        self.assertEqual([capacity(name).kind for name in ("a", "b")], [STOP_LINE, ENTRY])
+        self.assertEqual(capacity("b").per_hour, 5400)  # half of the time a vehicle a second, half two
         case.limits = [Limit("b", 0, 50, 2000)]
-        self.assertEqual(capacity_of(case, b, 0, 100).kind, ROAD)
+        self.assertEqual(capacity("b").kind, ROAD)
 
     def test_edits_of_a_span(self) -> None:
         """Slots with the same limit are one edit, those that stay none; a road has a whole number of vehicles a
         kilometre, and one more or less at least."""
         case = Case.read(self.case(**{**QUEUE, "signals": SIGNALS + "a,0,20,0.5\na,20,30,0\na,30,100,0.4\n"}))
-        change = capacity_of(case, case.links[0], 10, 40).changed(Fraction(1, 10))
+        change = capacity_of(case.setup, OwnRows(case), "a", 10, 40).changed(Fraction(1, 10))
         assert change is not None
         told = [(edit.told()["from"], edit.told()["to"], edit.told()["vehicles"]) for edit in change.edits]
         self.assertEqual(told, [(10, 20, "0.55"), (30, 40, "0.44")])
         self.assertEqual(change.per_hour, Fraction((500 + 400) * 3600, 1000 * 30))
-        change = capacity_of(case, case.links[1], 0, 100).changed(Fraction(-1, 1000))
+        change = capacity_of(case.setup, OwnRows(case), "b", 0, 100).changed(Fraction(-1, 1000))
         assert change is not None
         self.assertEqual((change.edits[0].told()["jam_per_km"], change.per_hour), (299, -24))
 
@@ -118,6 +124,22 @@ class ByHand(FolderTest):
         row = weighed(case, "--by", "25%", "--links", "a")["a"]
         self.assertEqual((row["more_per_h"], row["more_travel_time_s"]), ("180.0", "1.000000"))
         self.assertEqual(weighed(case, "--by", "50%", "--links", "a")["a"]["more_travel_time_s"], "2.282000")
+
+    def test_the_first_alone_are_weighed_both_ways(self) -> None:
+        """More of the road out saves most. Behind it is what more of the others costs, and nothing else of them."""
+        rows = weighed(str(self.case(**MERGE)), "--by", "25%", "--most", "1")
+        self.assertEqual(list(rows), ["out", "a"])
+        self.assertEqual([bool(row["less_travel_time_s"]) for row in rows.values()], [True, False])
+        self.assertEqual([row["clear"] for row in rows.values()], ["1", ""])
+        self.assertEqual(rows["a"]["more_travel_time_s"], "1.000000")
+
+    def test_a_change_without_effect_is_not_made_larger(self) -> None:
+        """All have passed by the time at which the entry has a limit, though rounding has an effect before."""
+        limits = "link,from_slot,to_slot,vehicles\nb,90,100,0.5\n"
+        setup = "step_ms,slots,origin_capacity,signals,limits\n1000,100,32,1,1\n"
+        with unittest.mock.patch.object(Trials, "effect", autospec=True, side_effect=Trials.effect) as effect:
+            self.assertEqual(weighed(str(self.case(**{**QUEUE, "setup": setup, "limits": limits})), "--links", "b"), {})
+        self.assertEqual(effect.call_count, 2)
 
     def test_what_rounding_hides(self) -> None:
         """A thousandth that stays behind in the busiest slot waits for the 20 s of the queue. So the part is doubled

@@ -15,10 +15,10 @@ from ..case.streets import read_streets, street_and_id, with_streets
 from ..errors import Fault
 from ..formats import clock_text, counted, exact_or_none
 from ..listing import Cell, TimeUnit, percent, text_table, time_unit
-from ..worth.result import FIELDS, cells, delays_changed_most, effect_of, tenths
-from ..worth.spread import Asked, worths
+from ..worth.result import FIELDS, cells, delays_changed_most, tenths
+from ..worth.spread import Asked, Sessions
 from ..worth.trials import Trials
-from ..worth.weighing import MOST_PART, TIMES_ROUNDING, Tried, Worth, by_savings, candidates
+from ..worth.weighing import MOST_PART, TIMES_ROUNDING, Tried, Worth, by_savings, candidates, ranked, to_weigh
 from .arguments import add_format_arguments, add_program_argument, add_start_argument, clock, whole, write_table
 
 NAME = "bottlenecks"
@@ -27,10 +27,10 @@ EXAMPLES = """\
     ltm-tools bottlenecks examples/corridor --start 7:00
     ltm-tools bottlenecks CASE --by 10% --from 7:30 --to 8:30 -o worth.csv
 
-Each link that may hold a queue is loaded twice anew, with its capacity raised and lowered by a part; all else stays,
-routes as well. The table has the change of the total travel time of all vehicles, the greatest saving first, and where
-the delay falls and rises most. Where the delay rises elsewhere by much of what it falls, the queue only moves on.
-docs/IMPROVE.md says more.
+The case is loaded anew for each link that may hold a queue, with its capacity raised by a part; all else stays, routes
+as well. The links that save most are then loaded with less capacity too. The table has the change of the total travel
+time of all vehicles, the greatest saving first, and where the delay falls and rises most. Where the delay rises
+elsewhere by much of what it falls, the queue only moves on. docs/IMPROVE.md says more.
 """
 HEADER = ("link", "held by", "veh/h", "more", "travel time", "less", "travel time", "moves on", "delay falls", "rises")
 
@@ -53,7 +53,7 @@ def add_arguments(parser: argparse.ArgumentParser) -> None:
             f"--{word}", metavar="CLOCK", type=clock, dest=f"{word}_ms", help=f"change limits {word} this clock time"
         )
     add_start_argument(parser)
-    parser.add_argument("--most", metavar="N", type=whole, default=20, help="how many links the text lists (20)")
+    parser.add_argument("--most", metavar="N", type=whole, default=20, help="how many links are looked at closely (20)")
     parser.add_argument(
         "--sessions",
         metavar="N",
@@ -84,17 +84,20 @@ def run(args: argparse.Namespace) -> int:
     trials = Trials(args.case, args.program)
     try:
         links = weighed_links(args, trials)
+        asked = changed_slots(args, trials.case)
+        sessions = Sessions(args.case, args.program, args.sessions, args.scheduler)
+        close, others = links, list[Worth]()
+        if args.links is None and len(links) > args.most:
+            close, others = ranked(watched(sessions.worths(links, asked), len(links)), trials.delays, args.most)
+        pieces = [to_weigh(trials, link) for link in close]
     finally:
         trials.close()
-    asked = changed_slots(args, trials.case)
-    found = by_savings(
-        watched(worths(args.case, args.program, links, asked, args.sessions, args.scheduler), len(links))
-    )
+    found = by_savings(watched(sessions.worths(pieces, asked), len(pieces)))
     streets = read_streets(args.case)
     write_table(
         args,
-        *with_streets(FIELDS, [cells(worth) for worth in found], "link", streets),
-        text(found, len(links), args.most, trials.base.spent, streets),
+        *with_streets(FIELDS, [cells(worth) for worth in (*found, *by_savings(others))], "link", streets),
+        text(found, len(links), len(found) + len(others), trials.base.spent, streets),
     )
     return 0
 
@@ -103,7 +106,7 @@ def weighed_links(args: argparse.Namespace, trials: Trials) -> list[str]:
     """The links that are to be weighed: those asked for, else those that may hold a queue."""
     case = trials.case
     if args.links is None:
-        return [link.name for link in candidates(case, trials.base.delays)]
+        return [link.name for link in candidates(case, trials.delays)]
     trials.base  # the program takes the case
     names = {link.name for link in case.links}
     found = links_named(args.case, case.links, args.links)
@@ -138,13 +141,12 @@ def watched(found: Iterable[Worth], count: int) -> list[Worth]:
     return worths
 
 
-def text(found: Sequence[Worth], weighed: int, most: int, spent: int, streets: Mapping[str, str]) -> str:
+def text(listed: Sequence[Worth], tried: int, effects: int, spent: int, streets: Mapping[str, str]) -> str:
     """The table for people, with what is to be known of it below."""
     unit = time_unit(spent)
-    listed = found[:most]
     rows = [row(worth, unit, streets) for worth in listed]
     lines = [
-        f"{counted(weighed, 'link')} tried, {counted(len(found), 'link')} with an effect, {len(listed)} listed; "
+        f"{counted(tried, 'link')} tried, {counted(effects, 'link')} with an effect, {len(listed)} listed; "
         f"total travel time {unit.show(spent)} {unit.name}\n",
         text_table(HEADER, rows) if rows else "",
     ]
@@ -158,10 +160,9 @@ def text(found: Sequence[Worth], weighed: int, most: int, spent: int, streets: M
 
 def row(worth: Worth, unit: TimeUnit, streets: Mapping[str, str]) -> list[Cell]:
     """A row for people."""
-    effect = effect_of(worth)
 
     def named(sign: int) -> str:
-        return ", ".join(f"{name} {signed(unit.show(change))}" for name, change in delays_changed_most(effect, sign))
+        return ", ".join(f"{name} {signed(unit.show(change))}" for name, change in delays_changed_most(worth, sign))
 
     def told(tried: Tried | None) -> list[Cell]:
         if tried is None:
@@ -174,7 +175,7 @@ def row(worth: Worth, unit: TimeUnit, streets: Mapping[str, str]) -> list[Cell]:
         tenths(worth.per_hour),
         *told(worth.more),
         *told(worth.less),
-        f"{percent(effect.rises, effect.falls)} %" if effect.falls else None,
+        f"{percent(worth.rises, worth.falls)} %" if worth.falls else None,
         named(-1),
         named(1),
     ]

@@ -347,8 +347,9 @@ def by_slot(limits: Iterable[rows.Limit], first: int, end: int) -> list[int]:
     """The limit that rows leave in each of these slots."""
     units = [NO_LIMIT] * (end - first)
     for row in limits:
-        for slot in range(max(first, row.from_slot), min(end, row.to_slot)):
-            units[slot - first] = row.units
+        if row.from_slot < end and row.to_slot > first:
+            start, last = max(first, row.from_slot) - first, min(end, row.to_slot) - first
+            units[start:last] = [row.units] * (last - start)
     return units
 
 

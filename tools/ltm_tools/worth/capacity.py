@@ -11,9 +11,10 @@ from collections.abc import Sequence
 from dataclasses import dataclass
 from fractions import Fraction
 
-from ..case import Case, Link
+from ..case import Link, Setup
 from ..formats import HOUR_MS, UNITS
 from ..scenario.edits import NO_LIMIT, Diagram, Edit, Exit, Limit, by_slot, runs
+from ..scenario.rows import OwnRows
 
 STOP_LINE, ENTRY, ROAD = KINDS = ("stop line", "entry", "road")
 
@@ -96,15 +97,15 @@ def scaled(limits: Sequence[int], road: Sequence[int], factor: Fraction) -> list
     return found
 
 
-def capacity_of(case: Case, link: Link, first: int, end: int) -> Capacity:
-    """What a link lets through in these slots of its case."""
-    setup = case.setup
+def capacity_of(setup: Setup, own: OwnRows, name: str, first: int, end: int) -> Capacity:
+    """What a link of a case lets through in these slots, by its setup and its rows."""
+    link = own.links[name]
     road = tuple(
         link.capacity_at(setup.step_ms, slot) if setup.carry else link.capacity(setup.step_ms)
         for slot in range(first, end)
     )
-    for kind, rows in ((STOP_LINE, case.signals), (ENTRY, case.limits)):
-        limits = by_slot((row for row in rows if row.link == link.name), first, end)
+    for kind, rows in ((STOP_LINE, own.exits), (ENTRY, own.limits)):
+        limits = by_slot(rows.get(name, ()), first, end)
         if any(0 < units < most for units, most in zip(limits, road)):
             return Capacity(link, kind, first, tuple(limits), road, setup.step_ms)
     return Capacity(link, ROAD, first, (NO_LIMIT,) * (end - first), road, setup.step_ms)

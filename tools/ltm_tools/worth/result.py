@@ -12,7 +12,6 @@ from ..files import Row, read_table
 from ..formats import UNITS
 from ..listing import Cell, rounded, seconds, vehicles
 from .capacity import KINDS
-from .trials import Effect
 from .weighing import Tried, Worth
 
 FIELDS = (
@@ -39,19 +38,18 @@ MOST_NAMED = 3  # links where delays fall, and where they rise
 
 def cells(worth: Worth) -> list[Cell]:
     """A row for programs: capacities in vehicles an hour, times in vehicle seconds, arrivals in vehicles."""
-    effect = effect_of(worth)
     return [
         worth.link,
         worth.kind,
         tenths(worth.per_hour),
         *of_tried(worth.more),
         *of_tried(worth.less),
-        seconds(worth.rounding),
-        int(worth.is_clear),
-        seconds(effect.falls),
-        seconds(effect.rises),
-        " ".join(name for name, _ in delays_changed_most(effect, -1)),
-        " ".join(name for name, _ in delays_changed_most(effect, 1)),
+        None if worth.rounding is None else seconds(worth.rounding),
+        None if worth.rounding is None else int(worth.is_clear),
+        None if worth.moved is None else seconds(worth.falls),
+        None if worth.moved is None else seconds(worth.rises),
+        " ".join(name for name, _ in delays_changed_most(worth, -1)),
+        " ".join(name for name, _ in delays_changed_most(worth, 1)),
     ]
 
 
@@ -63,14 +61,9 @@ def of_tried(tried: Tried | None) -> list[Cell]:
     return [tenths(tried.per_hour), seconds(effect.spent), seconds(effect.delay), vehicles(effect.arrived)]
 
 
-def effect_of(worth: Worth) -> Effect:
-    """The effect of more capacity; none where that cannot be."""
-    return worth.more.effect if worth.more else Effect(0, 0, 0, {})
-
-
-def delays_changed_most(effect: Effect, sign: int) -> list[tuple[str, int]]:
-    """The links and origins whose delay falls (-1) or rises (1) most, the most first."""
-    found = [(name, change) for name, change in effect.by_name.items() if sign * change > 0]
+def delays_changed_most(worth: Worth, sign: int) -> list[tuple[str, int]]:
+    """The links and origins whose delay falls (-1) or rises (1) most with more capacity, the most first."""
+    found = [(name, change) for name, change in (worth.moved or {}).items() if sign * change > 0]
     return sorted(found, key=lambda one: -sign * one[1])[:MOST_NAMED]
 
 
@@ -111,7 +104,7 @@ def worth_row(row: Row) -> WorthRow:
         if exact.denominator != 1:
             raise row.fault("more_travel_time_s", "vehicle seconds with six decimals at most are wanted")
         spent = exact.numerator
-    return WorthRow(row.text("link"), kind, row.number("more_per_h", 0), spent, row.whole("clear") == 1)
+    return WorthRow(row.text("link"), kind, row.number("more_per_h", 0), spent, row.whole("clear", 0) == 1)
 
 
 def savings(rows: Sequence[WorthRow]) -> Mapping[str, int]:
