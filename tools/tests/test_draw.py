@@ -14,7 +14,7 @@ from ltm_tools import libraries
 from ltm_tools.libraries import DEBIAN_PYTHON
 from ltm_tools.loading.curves import Curves
 from ltm_tools.loading.loaded import LoadedCase
-from ltm_tools.show.draw import drawn_aside, bent, clock_axis, draw_map, draw_shares, occupancy
+from ltm_tools.show.draw import drawn_aside, bent, clock_axis, draw_map, draw_shares, draw_worths, occupancy
 from ltm_tools.show.layout import scaled
 from ltm_tools.show.plot import draw_arrivals, draw_iterations, draw_link
 
@@ -101,6 +101,19 @@ class Texts(FolderTest):
             plot, Curves(1000, 3, {("arr", f"_{n}"): {f"_{n}": b"0 0 %d" % n} for n in range(10, 20)})
         )
         self.assertEqual(self.texts(figure)[-8:], [*(f"_{n}" for n in range(19, 12, -1)), "3 others together"])
+
+    def test_worths(self) -> None:
+        """The greatest of all has the strongest colour: 20 vehicle seconds saved at a link, where 5 are lost at b."""
+        figure = draw_worths(
+            self.plotter(),
+            LoadedCase(*read("spillback")),
+            str(DATA / "spillback"),
+            "w",
+            {"a": 20_000_000, "b": -5_000_000},
+        )
+        shown = figure.axes[0].collections[1]
+        self.assertEqual((list(shown.get_array()), shown.get_clim()), ([20, -5], (-20, 20)))
+        self.assertEqual(figure.axes[1].get_ylabel(), "vehicle seconds that more capacity saves")
 
     def test_axes(self) -> None:
         """Ticks of a clock at every minute of eight, at every two of nine, and at quarters of less than two minutes;

@@ -27,6 +27,7 @@ from ltm_tools.loading import delay
 from ltm_tools.loading.curves import Curves
 from ltm_tools.show import layout
 from ltm_tools.show.page import WEB, find_d3
+from ltm_tools.worth.result import FIELDS as WORTH_FIELDS
 from ltm_tools.show.scripts import joined_scripts, modules
 
 
@@ -322,6 +323,22 @@ class InABrowser(BrowserTest):
         status, _, err = commands.run(*words)
         self.assertEqual((status, err.count("\n")), (1, 1))
         self.assertIn("the fit is not of this case: it has no link z", err)
+
+    def test_colours_of_worths(self) -> None:
+        """The greatest of all has the strongest colour: 20 vehicle seconds saved at `a`, where 5 are lost at `b`."""
+        table = self.folder / "worth.csv"
+        rows = ("a,stop line,1800,90,-20,-20,0,,,,,,,,,,", "b,road,1800,90,5,5,0,,,,,,,,,,")
+        table.write_text("\n".join((",".join(WORTH_FIELDS), *rows, "")))
+        self.browser.open(write_page(self.folder, *with_curves("spillback"), "--worth", str(table)))
+        part, texts = self.coloured("worth", "a")
+        self.assertEqual(texts, ["−20", "vehicle seconds saved by more capacity", "+20"])
+        self.assertEqual((part, self.browser.run("return ltm.part('b')")), (1, -0.25))
+        self.assertFalse(self.browser.run("return document.querySelector('#shown [value=worth]').hidden"))
+        self.assertTrue(self.browser.run("return document.querySelector('#shown [value=misfit]').hidden"))
+        self.assertEqual(self.browser.console(), [])
+        table.write_text(table.read_text().replace("\nb,", "\nz,"))
+        words = ["page", *with_curves("spillback"), "--worth", str(table), "-o", str(self.folder / "other.html")]
+        self.assertIn("the table of worths is not of this case: it has no link z", commands.run(*words)[2])
 
     def test_the_table_fits(self) -> None:
         """At 1,300 pixels the column by which it is sorted is in sight, with long names and times."""

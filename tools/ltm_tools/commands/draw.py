@@ -12,7 +12,8 @@ from ..counting.result import misfits, read_fit
 from ..errors import Fault
 from ..loading.loaded import LoadedCase, loaded
 from ..case.source import path_named
-from ..show.draw import draw_map, draw_misfits, draw_newell, draw_shares
+from ..show.draw import draw_map, draw_misfits, draw_newell, draw_shares, draw_worths
+from ..worth.result import read_worths, savings
 from .arguments import add_curves_arguments, add_start_argument, clock, write_picture
 
 if TYPE_CHECKING:
@@ -24,6 +25,7 @@ EXAMPLES = """\
     ltm-tools draw full examples/corridor r1 r2 r3 r4 r5 r6 r7 r8 works r9 -o full.png --start 7:00 --other WIDER
     ltm-tools draw map examples/closures -o map.png --start 7:00 --at 7:15
     ltm-tools draw map CASE -o misfits.png --fit fit.csv
+    ltm-tools draw map CASE -o worth.png --worth worth.csv
     ltm-tools draw curves examples/spillback a b -o curves.svg
 """
 
@@ -63,6 +65,9 @@ def add_arguments(parser: argparse.ArgumentParser) -> None:
     over.add_argument(
         "--fit", metavar="FILE", help="the fit.csv of `validate`: colours by how much more is loaded than was counted"
     )
+    over.add_argument(
+        "--worth", metavar="FILE", help="a table of `bottlenecks --format csv`: colours by what more capacity saves"
+    )
 
 
 def run(args: argparse.Namespace) -> int:
@@ -71,8 +76,10 @@ def run(args: argparse.Namespace) -> int:
     matplotlib.use("Agg")
     import matplotlib.pyplot as plot
 
-    if args.what == "map" and (args.at is None) == (args.fit is None):
-        raise Fault("a map is of a moment, --at CLOCK, or of a fit, --fit FILE: say one of the two")
+    if args.what == "map" and [args.at, args.fit, args.worth].count(None) != 2:
+        raise Fault(
+            "a map is of a moment, --at CLOCK, of a fit, --fit FILE, or of worths, --worth FILE: say one of them"
+        )
     both, folders = [loaded(args.case, args.curves, args.program)], [args.case]
     if getattr(args, "other", None) is not None:
         both.append(loaded(args.other, args.other_curves, args.program))
@@ -95,4 +102,6 @@ def picture(plot: Any, args: argparse.Namespace, both: list[LoadedCase], folders
         return draw_newell(plot, both[0], path_named(args.case, both[0].case.links, args.names), start, streets)
     if args.fit is not None:
         return draw_misfits(plot, both[0], folders[0], titles[0], misfits(read_fit(args.fit)))
+    if args.worth is not None:
+        return draw_worths(plot, both[0], folders[0], titles[0], savings(read_worths(args.worth)))
     return draw_map(plot, both, folders, titles, both[0].boundary_at(args.at, start), start)

@@ -13,6 +13,7 @@ from ..loading.curves import Summed
 from ..loading.loaded import LoadedCase, loaded
 from ..loading.told import check_gap, told_gap
 from ..show.page import find_d3, page
+from ..worth.result import read_worths, savings
 from .arguments import add_curves_arguments, add_each_link_argument, add_gap_argument, add_start_argument
 
 NAME = "page"
@@ -45,6 +46,9 @@ def add_arguments(parser: argparse.ArgumentParser) -> None:
     parser.add_argument(
         "--fit", metavar="FILE", help="a fit.csv of CASE, as `validate` writes it, as a choice of colours"
     )
+    parser.add_argument(
+        "--worth", metavar="FILE", help="a table of CASE, of `bottlenecks --format csv`, as a choice of colours"
+    )
     add_each_link_argument(parser)
     add_gap_argument(parser)
     parser.add_argument("--names", metavar="NAME", nargs=2, help="what the two cases are called on the switch")
@@ -68,8 +72,9 @@ def run(args: argparse.Namespace) -> int:
     names = [readable(name) for name in args.names or called]
     title = readable(args.title or called[0])
     found = None if args.fit is None else misfits(read_fit(args.fit))
+    saved = None if args.worth is None else savings(read_worths(args.worth))
     gaps = [told_gap(folder, args.program) if args.gap else None for folder in folders]
     least = max(1, units_of(args.least))
-    text = page(both, folders, names, start, least, title, library, args.each_link, gaps, misfits=found)
+    text = page(both, folders, names, start, least, title, library, args.each_link, gaps, misfits=found, savings=saved)
     write_text(args.output, text)
     return 0

@@ -12,6 +12,7 @@ from ..case.places import Line, Place, Places, read_places
 from ..case.streets import street_and_id
 from ..errors import Fault
 from ..formats import MINUTE_MS, clock_text
+from ..listing import time_unit
 from ..loading import delay
 from ..loading.counts import Counts, float_vehicles
 from ..loading.loaded import LoadedCase
@@ -164,22 +165,51 @@ def draw_map(
 def draw_misfits(plot: Any, one: LoadedCase, folder: str, title: str, misfits: Mapping[str, Fraction]) -> "Figure":
     """The network, each link that was counted coloured by how much more is loaded than was counted, in per cent: blue
     where too few pass, red where too many."""
+    parts = {link: float(100 * part) for link, part in misfits.items()}
+    return draw_signed(plot, one, folder, title, parts, MOST_MISFIT, "loaded over counted, in per cent", "fit")
+
+
+def draw_worths(plot: Any, one: LoadedCase, folder: str, title: str, savings: Mapping[str, int]) -> "Figure":
+    """The network, each link coloured by the total travel time that more of its capacity saves, in units times ms: red
+    where it saves time, blue where it costs time. The strongest colour is that of the greatest."""
+    unit = time_unit(*savings.values())
+    times = {link: float(unit.show(time)) for link, time in savings.items()}
+    most = max((abs(time) for time in times.values()), default=0.0) or 1.0
+    return draw_signed(
+        plot, one, folder, title, times, most, f"{unit.name} that more capacity saves", "table of worths"
+    )
+
+
+def draw_signed(
+    plot: Any,
+    one: LoadedCase,
+    folder: str,
+    title: str,
+    values: Mapping[str, float],
+    most: float,
+    label: str,
+    table: str,
+) -> "Figure":
+    """The network, links coloured by values of a table from blue, at so much below 0, to red, at so much above."""
     from matplotlib.collections import LineCollection
 
-    unknown = [name for name in misfits if all(link.name != name for link in one.case.links)]
-    if unknown or not misfits:
-        raise Fault(f"the fit is not of this case: it has no link {unknown[0]}" if unknown else "the fit has no link")
+    unknown = [name for name in values if all(link.name != name for link in one.case.links)]
+    if unknown or not values:
+        raise Fault(
+            f"the {table} is not of this case: it has no link {unknown[0]}" if unknown else f"the {table} has no link"
+        )
     figure, axes = plot.subplots(figsize=(8, 6), layout="constrained")
     at, lines = roads(one, folder)
     axes.add_collection(LineCollection(lines, colors="#c3ccd5", linewidths=1.6, zorder=1))
-    counted = [k for k, link in enumerate(one.case.links) if link.name in misfits]
-    parts = [float(100 * misfits[one.case.links[k].name]) for k in counted]
-    shown = LineCollection([lines[k] for k in counted], cmap="RdBu_r", linewidths=3.6, zorder=2)
+    known = [k for k, link in enumerate(one.case.links) if link.name in values]
+    parts = [values[one.case.links[k].name] for k in known]
+    shown = LineCollection([lines[k] for k in known], cmap="RdBu_r", linewidths=3.6, zorder=2)
     shown.set_array(parts)
-    shown.set_clim(-MOST_MISFIT, MOST_MISFIT)
+    shown.set_clim(-most, most)
     axes.add_collection(shown)
     finish(axes, at, plain(title))
-    figure.colorbar(shown, ax=axes, label="loaded over counted, in per cent", shrink=0.7, pad=0.02, extend="both")
+    extend = "both" if any(abs(part) > most for part in parts) else "neither"
+    figure.colorbar(shown, ax=axes, label=label, shrink=0.7, pad=0.02, extend=extend)
     return figure
 
 

@@ -6,7 +6,7 @@ import base64
 import html
 import re
 import sys
-from collections.abc import Mapping, Sequence
+from collections.abc import Iterable, Mapping, Sequence
 from fractions import Fraction
 from pathlib import Path
 
@@ -62,6 +62,7 @@ def told_case(
     unit: TimeUnit,
     each_link: bool,
     misfits: Mapping[str, Fraction],
+    savings: Mapping[str, int],
 ) -> dict[str, object]:
     """All that the page has to know of a loading."""
     case, curves = one
@@ -81,6 +82,7 @@ def told_case(
         ],
         "capacities": [float(link.passing(curves.step_ms, case.setup.carry)) for link in case.links],
         "misfits": told_misfits(case, misfits),
+        "savings": told_savings(case, savings),
         "entered": packed_flows([up for up, _ in both]),
         "left": packed_flows([down for _, down in both]),
         "departed": packed_flows([departed(one, node) for node in rows]),
@@ -98,11 +100,23 @@ def told_case(
 
 def told_misfits(case: Case, misfits: Mapping[str, Fraction]) -> dict[str, float]:
     """By the numbers of links by how many per cent more is loaded than was counted."""
-    number = {link.name: str(index) for index, link in enumerate(case.links)}
-    unknown = [name for name in misfits if name not in number]
-    if unknown:
-        raise Fault(f"the fit is not of this case: it has no link {unknown[0]}")
+    number = numbers_of(case, misfits, "fit")
     return {number[name]: float(percent(part.numerator, part.denominator)) for name, part in misfits.items()}
+
+
+def told_savings(case: Case, savings: Mapping[str, int]) -> dict[str, float]:
+    """By the numbers of links the total travel time that more capacity saves, in the unit for all of them."""
+    number, unit = numbers_of(case, savings, "table of worths"), time_unit(*savings.values())
+    return {number[name]: float(unit.show(time)) for name, time in savings.items()}
+
+
+def numbers_of(case: Case, names: Iterable[str], table: str) -> dict[str, str]:
+    """The numbers of links by name; a Fault where a table names one that the case does not have."""
+    number = {link.name: str(index) for index, link in enumerate(case.links)}
+    unknown = [name for name in names if name not in number]
+    if unknown:
+        raise Fault(f"the {table} is not of this case: it has no link {unknown[0]}")
+    return number
 
 
 def departed(one: LoadedCase, node: str) -> Counts:
@@ -157,10 +171,12 @@ def page(
     gaps: Sequence[Gap | None] = (None, None),
     story: Mapping[str, object] | None = None,
     misfits: Mapping[str, Fraction] | None = None,
+    savings: Mapping[str, int] | None = None,
 ) -> str:
     """The text of the page; links that were cut before a crossing are told with their turns, or with `each_link` each
     by itself alone. The `story` of a scenario beside its base has what was changed and the effect, as a live map shows
-    them. `misfits` are of the links of the first case, in parts of what was counted."""
+    them. `misfits` are of the links of the first case, in parts of what was counted; `savings` what more of their
+    capacity saves of the total travel time, in units times ms."""
     places, bent = placed_networks(folders, [one.case for one in both])
     reports = [delay.report(one.curves, one.case) for one in both]
     unit = time_unit(*(report.spent for report in reports))
@@ -176,6 +192,7 @@ def page(
             unit,
             each_link,
             misfits or {} if not index else {},
+            savings or {} if not index else {},
         )
         for index, (one, name) in enumerate(zip(both, names))
     ]
@@ -185,6 +202,7 @@ def page(
         "title": title,
         "least": format(vehicles(least), "f"),
         "unit": unit.name,
+        "savings": time_unit(*(savings or {}).values()).name,
         "boundary": busiest(both[0]),
         "cases": cases,
         "story": story,

@@ -24,6 +24,7 @@ const titleOf = link => state.joined && here().roadFrom.get(link) || here().link
 const nameOf = what => what.link !== undefined ? here().links[what.link].name : here().nodes[what.node].name;
 const waits = node => here().originAt.has(node) ? here().waiting(here().originAt.get(node), hereK()) : 0;
 const [base, now] = [cases[0], cases[cases.length - 1]], { story } = data;
+const mostSaved = d3.max(Object.values(base.savings), Math.abs) || 1;
 const isCounted = link => here().misfits[link] !== undefined;
 const stored = { most: all => here().storageOf(all), unit: "% of what the link stores", scale: 100 };
 const SHOWN = {
@@ -35,6 +36,8 @@ const SHOWN = {
     unit: "% of the capacity", scale: 100 },
   misfit: { amount: link => here().misfits[link] || 0, most: all => MOST_MISFIT * (all.filter(isCounted).length || 1),
     unit: "% more than counted", scale: MOST_MISFIT, both: true },
+  worth: { amount: link => here().savings[link] || 0, most: () => mostSaved,
+    unit: `${data.savings} saved by more capacity`, scale: mostSaved, both: true },
 };
 const shown = () => SHOWN[state.shown];
 
@@ -50,7 +53,9 @@ function tell(what) {
   const flow = `${vehicles(here().flow(what.link, hereK()))} left it in 15 minutes`, name = here().shown(nameOf(what));
   const more = here().misfits[what.link];
   const counted = more === undefined ? "" : `, ${signed(more.toFixed(1), more)} % loaded over counted`;
-  return `${name}: ${standing} on it, ${queue} in the queue, ${flow}${counted}`;
+  const saved = here().savings[what.link];
+  const worth = saved === undefined ? "" : `, more capacity saves ${saved.toFixed(2)} ${data.savings}`;
+  return `${name}: ${standing} on it, ${queue} in the queue, ${flow}${counted}${worth}`;
 }
 
 const map = new RoadMap($("network"), $("tip"), {
@@ -154,7 +159,9 @@ function begin() {
   const switches = cases.length > 1 ? cases : [];
   d3.select("#switch").selectAll("button").data(switches).join("button").attr("role", "radio").text(one => one.name)
     .each(function (_, index) { this.addEventListener("click", () => turnTo(index)); });
-  document.querySelector("#shown [value=misfit]").hidden = !cases.some(one => Object.keys(one.misfits).length);
+  for (const [value, told] of [["misfit", "misfits"], ["worth", "savings"]]) {
+    document.querySelector(`#shown [value=${value}]`).hidden = !cases.some(one => Object.keys(one[told]).length);
+  }
   drawSigns(d3.select("#signs"), SIGNS);
   $("change").hidden = cases.length < 2 || base.links.length !== now.links.length;
   listen();
