@@ -20,6 +20,7 @@ from ..scenario import edits
 from ..scenario.batches import in_batches
 from ..scenario.edits import Edit
 from ..scenario.open import OpenCase
+from .capacities import WHOLE, Capacities
 
 Program = str | os.PathLike[str] | None
 
@@ -73,16 +74,20 @@ class Loader:
         paths: Sequence[Sequence[str]],
         program: Program,
         case: Case | None = None,
+        capacities: Capacities | None = None,
     ) -> None:
-        """`case` is what stands in the folder, where it is known already."""
+        """`case` is what stands in the folder, where it is known already; `capacities` are those of its stop lines that
+        may change."""
         self.counts, self.times, self.paths = counts, times, paths
         self.case = case or Case.read(folder)
         self.links = {link.name: link for link in self.case.links}
         self.order = {link.name: place for place, link in enumerate(self.case.links)}
         self.opened_with = numpy.array([row.units for row in self.case.demand], dtype=numpy.int64)
         self.now = self.opened_with.copy()
+        self.capacities, self.unchanged = capacities, [WHOLE] * (0 if capacities is None else len(capacities.groups))
+        self.factors = self.unchanged
         self.boundaries = self._boundaries()
-        self.open = OpenCase(folder, program, again=lambda: self._edits(self.now != self.opened_with))
+        self.open = OpenCase(folder, program, again=self._again)
         self.loadings = 0
 
     def __enter__(self) -> Loader:
@@ -119,11 +124,20 @@ class Loader:
         rows = zip([self.case.demand[place] for place in places.tolist()], self.now[places].tolist())
         return [edits.Demand(row.origin, row.destination, row.from_slot, row.to_slot, units) for row, units in rows]
 
-    def load(self, units: Whole) -> Loaded:
-        """What the loading of these units by row has at the counts and times."""
-        changed = units != self.now
-        self.now = units.copy()
-        batches = list(in_batches(self._edits(changed)))
+    def _capacity_edits(self, before: Sequence[int]) -> list[Edit]:
+        """Edits that set the capacities as they are now, from these factors on."""
+        return [] if self.capacities is None else self.capacities.edits(before, self.factors)
+
+    def _again(self) -> list[Edit]:
+        """The edits that a session lacks which has just been opened."""
+        return [*self._edits(self.now != self.opened_with), *self._capacity_edits(self.unchanged)]
+
+    def load(self, units: Whole, factors: Sequence[int] | None = None) -> Loaded:
+        """What the loading of these units by row has at the counts and times, with these factors of capacities in
+        thousandths, by default those of now."""
+        changed, before = units != self.now, self.factors
+        self.now, self.factors = units.copy(), [*(before if factors is None else factors)]
+        batches = list(in_batches([*self._edits(changed), *self._capacity_edits(before)]))
         self.loadings += 1
 
         def load() -> Loaded:

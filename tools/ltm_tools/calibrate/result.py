@@ -11,10 +11,12 @@ from ..counting.validating import Met, MetTime, Validation
 from ..files import read_bytes, write_bytes, write_text
 from ..formats import clock_text
 from ..listing import Cell, csv_text, rounded, seconds, vehicles
+from .capacities import WHOLE
 from .search import Iteration, Search, Target, Trial
 from .spread import Spread
 
 FIT_FILE, DEMAND_FILE, ITERATIONS_FILE = "fit.csv", "demand_fit.csv", "iterations.csv"
+CAPACITIES_FILE, CAPACITY_FIELDS = "capacities_fit.csv", ("group", "links", "factor", "known")
 DEMAND_FIELDS = ("origin", "destination", "from", "to", "prior", "found", "known")
 ITERATION_FIELDS = ("iteration", "loadings", "sum", "of_counts", "queued", "spent", "late", "step", "slopes")
 
@@ -24,7 +26,23 @@ def found_case(search: Search, point: Trial) -> Case:
     made = Case.of(search.prior.case)
     made.demand = search.prior.demand(search.prior.of_rows(search.effects.amounts(point.effects)))
     made.setup = search.case.setup
+    if search.capacities is not None:
+        made.signals = search.capacities.rows(search.factors(point.effects))
     return made
+
+
+def capacity_rows(search: Search, point: Trial, spread: Spread | None) -> list[list[Cell]]:
+    """A row for each group of stop lines: its name, its links, the factor that was found, and how well it is known."""
+    assert search.capacities is not None
+    return [
+        [
+            group.name,
+            " ".join(line.link for line in group.lines),
+            rounded(factor, WHOLE, 3),
+            None if spread is None else rounded(round(float(spread.capacities_known[place]) * 1_000_000), 1_000_000, 3),
+        ]
+        for place, (group, factor) in enumerate(zip(search.capacities.groups, search.factors(point.effects)))
+    ]
 
 
 def validation(target: Target, point: Trial) -> Validation:
@@ -89,4 +107,7 @@ def write_result(
     write_text(os.path.join(to, FIT_FILE), csv_text(FIT_FIELDS, rows))
     unknowns = unknown_rows(search, point, spread, start)
     write_text(os.path.join(to, DEMAND_FILE), csv_text(DEMAND_FIELDS, unknowns))
+    if search.capacities is not None:
+        found = capacity_rows(search, point, spread)
+        write_text(os.path.join(to, CAPACITIES_FILE), csv_text(CAPACITY_FIELDS, found))
     write_text(os.path.join(to, ITERATIONS_FILE), csv_text(ITERATION_FIELDS, [iteration_row(one) for one in done]))

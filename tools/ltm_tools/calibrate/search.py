@@ -22,6 +22,7 @@ import numpy
 from ..assign.net import Net, Real, Whole
 from ..counting.counts import FIT, Count, Timed
 from ..errors import Fault
+from .capacities import LEAST, WHOLE, Capacities
 from .cluster import all_loaded
 from .linear import Factor, directions, gram, square, summed_rows, product
 from .loader import Loaded, Loader, Program
@@ -29,6 +30,7 @@ from .shares import Moments, SplitParts, counted_shares
 from .unknowns import Effects, Errors, Prior
 
 FURTHEST, LONGEST = 0.5, 0.7  # of an unknown in a step along a direction, and of such a step in errors
+CAPACITY_STEP = 0.5  # in errors of a capacity: so much less of it, and more, are loaded
 ENOUGH = 0.5  # of the sum: an iteration by shares that leaves more is tried by responses too
 SMALLEST = 0.2  # part of a step
 ENDS = 0.01  # of the sum: a search ends where an iteration gains less
@@ -39,13 +41,15 @@ MET = 0.01  # of the errors of counts: a prior whose misfits are smaller in the 
 @dataclass(frozen=True)
 class CalibrateOptions:
     """How demand is sought: iterations at most, directions at most, what a prior is wrong by, sessions at once, and the
-    scheduler of a cluster, which has many loadings made in their place."""
+    scheduler of a cluster, which has many loadings made in their place; and whether stop lines have factors of their
+    own, by class of links or by junction."""
 
     iterations: int = 6
     directions: int = 32
     errors: Errors = Errors()
     processes: int = 1
     scheduler: str | None = None
+    capacities: str | None = None
 
 
 class Trial(NamedTuple):
@@ -109,13 +113,15 @@ class Search:
         program: Program,
     ) -> None:
         self.prior, self.options, self.program = prior, options, program
-        self.target, self.effects = Target(counts, measured), Effects(prior, options.errors)
+        self.capacities = None if options.capacities is None else Capacities(prior.case, options.capacities)
+        groups = 0 if self.capacities is None else len(self.capacities.groups)
+        self.target, self.effects = Target(counts, measured), Effects(prior, options.errors, groups)
         self.asked = tuple(counts), tuple(measured), tuple(tuple(path) for path in paths)
         self.stack, self.case = ExitStack(), prior.as_case()
         self.folder = self.stack.enter_context(tempfile.TemporaryDirectory(prefix="ltm_calibrate_"))
         self.case.write(self.folder)
         self.loaders = [
-            self.stack.enter_context(Loader(self.folder, *self.asked, program, self.case))
+            self.stack.enter_context(Loader(self.folder, *self.asked, program, self.case, self.capacities))
             for _ in range(max(1, options.processes))
         ]
         self.elsewhere = 0  # loadings by a cluster
@@ -151,6 +157,11 @@ class Search:
         """The units of each row of demand by these effects."""
         return self.prior.of_rows(self.effects.amounts(effects))
 
+    def factors(self, effects: Real) -> list[int]:
+        """The factors of capacities by these effects, in thousandths."""
+        found = 1 + self.options.errors.capacity * effects[self.effects.of_demand :]
+        return [max(LEAST, round(WHOLE * factor)) for factor in found.tolist()]
+
     def trial(self, effects: Real, loaded: Loaded) -> Trial:
         """The misfits of a loading of these effects."""
         misfits = (self.target.wanted - self.target.has(loaded)) / self.target.errors
@@ -158,7 +169,8 @@ class Search:
 
     def at(self, effects: Real, loader: Loader | None = None) -> Trial:
         """The loading of these effects."""
-        return self.trial(effects, (loader or self.loaders[0]).load(self.units(effects)))
+        loader = loader or self.loaders[0]
+        return self.trial(effects, loader.load(self.units(effects), self.factors(effects)))
 
     def all_at(self, many: Sequence[Real]) -> list[Trial]:
         """The loadings of several, on all sessions at once, or by the workers of a cluster."""
@@ -186,7 +198,7 @@ class Search:
     def by_shares(self, point: Trial) -> Real:
         """Slopes by effects, in errors, of the shares of a loading; those of times are 0."""
         loader = self.loaders[0]
-        loader.load(self.units(point.effects))
+        loader.load(self.units(point.effects), self.factors(point.effects))
         moments = Moments(self.net, loader.curves(self.net))
         counts = [self.target.counts[k] for k in self.target.chosen]
         found = counted_shares(self.net, self.splits, moments, self.prior.unknowns, counts)
@@ -194,6 +206,18 @@ class Search:
         if not found.any() and not self.target.timed:
             raise Fault("no counter is passed by any demand of this case: nothing could be found")
         return numpy.asarray(self.effects.slopes(found) / self.target.errors[:, None])
+
+    def slopes(self, point: Trial) -> Real:
+        """Slopes by effects: of demand by shares, of capacities by what a loading with less of each, and one with more,
+        makes of the counts."""
+        found = self.by_shares(point)
+        places = range(self.effects.of_demand, self.effects.size)
+        away = numpy.zeros((len(places), self.effects.size))
+        away[range(len(places)), list(places)] = CAPACITY_STEP
+        less, more = (self.all_at([point.effects + sign * one for one in away]) for sign in (-1, 1))
+        for place, below, above in zip(places, less, more):
+            found[:, place] = (below.misfits - above.misfits) / (2 * CAPACITY_STEP)
+        return found
 
     def by_responses(self, point: Trial, slopes: Real) -> Real:
         """Slopes that are put right along the main directions, by a loading for each."""
@@ -256,7 +280,7 @@ class Search:
         if point is not self.best:
             yield Iteration(0, self.loadings, point, 0.0, "less")
         for number in range(1, self.options.iterations + 1):
-            slopes = self.by_shares(point)
+            slopes = self.slopes(point)
             tried = [(*self.step(point, slopes), "shares")]
             if tried[0][0].value > ENOUGH * point.value and self.options.directions:
                 put_right = self.by_responses(point, slopes)

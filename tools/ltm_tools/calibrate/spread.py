@@ -22,10 +22,12 @@ SMALLEST = 1e-12  # of a square of vehicles
 @dataclass(frozen=True)
 class Spread:
     """Demands that fit as well, each by its loading: some that were drawn, and those with the least and the most
-    vehicles that counts allow; and of each unknown the part of its prior's variance that counts take away."""
+    vehicles that counts allow; and of each unknown, and of each capacity, the part of its prior's variance that counts
+    take away."""
 
     points: tuple[Trial, ...]
     known: Real
+    capacities_known: Real
 
 
 def spread_of(search: Search, samples: int) -> Spread:
@@ -33,7 +35,7 @@ def spread_of(search: Search, samples: int) -> Spread:
     the widest."""
     point = search.best
     assert point is not None
-    slopes = search.by_shares(point)
+    slopes = search.slopes(point)
     if search.options.directions:
         slopes = search.by_responses(point, slopes)
     factor = Factor(gram(slopes) + numpy.eye(len(slopes)))
@@ -47,7 +49,12 @@ def spread_of(search: Search, samples: int) -> Spread:
     solved = factor.solve(slopes)
     told = dot(slopes.ravel(), solved.ravel())  # how many numbers the counts tell
     most = point.of_counts + told + ERRORS * math.sqrt(2 * told)
-    return Spread(fitting(search, point, [*drawn, -far, far], most), known(search.effects, slopes, solved))
+    of_capacities = slice(search.effects.of_demand, None)
+    return Spread(
+        fitting(search, point, [*drawn, -far, far], most),
+        known(search.effects, slopes, solved),
+        summed_rows(slopes[:, of_capacities] * solved[:, of_capacities]),
+    )
 
 
 def fitting(search: Search, point: Trial, aways: Sequence[Real], most: float) -> tuple[Trial, ...]:

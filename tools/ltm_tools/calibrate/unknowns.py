@@ -99,6 +99,7 @@ class Errors:
     destination: float = 0.1
     pair: float = 0.2
     own: float = 0.1
+    capacity: float = 0.1  # of the factor of stop lines, where these are unknowns too
 
     @classmethod
     def read(cls, path: str) -> Errors:
@@ -113,7 +114,7 @@ class Errors:
                 raise row.fault("error", "a part of the demand is wanted, from 0 to 10, and each effect once")
             found[name] = float(error)
         made = cls(**found)
-        if not any(getattr(made, name) for name in known):
+        if not any(getattr(made, name) for name in known if name != "capacity"):
             raise Fault(f"{path}: all errors are 0, so the prior would stay as it is")
         return made
 
@@ -121,7 +122,8 @@ class Errors:
 class Effects:
     """Amounts by effects, which are what a prior is wrong by in units of its errors, and slopes by effects."""
 
-    def __init__(self, prior: Prior, errors: Errors) -> None:
+    def __init__(self, prior: Prior, errors: Errors, more: int = 0) -> None:
+        """`more` effects behind those of demand change no amount."""
         self.prior = prior.units / 1000
         self.scale = numpy.maximum(self.prior, LEAST_SCALE)
         keys: Sequence[tuple[float, Callable[[Unknown], Hashable]]] = (
@@ -140,6 +142,8 @@ class Effects:
                 of = [number.setdefault(key(one), len(number)) for one in prior.unknowns]
                 self.groups.append((part, numpy.array(of), self.size, self.size + len(number)))
                 self.size += len(number)
+        self.of_demand = self.size
+        self.size += more
 
     def changes(self, effects: Real) -> Real:
         """What effects `[n]` or `[n, k]` do to the amounts."""

@@ -51,6 +51,7 @@ iterations.csv. Each iteration prints a line: the number of loadings so far, the
 Ctrl-C keeps the best demand so far. docs/CALIBRATE.md says how it works, and what counts cannot show.
 """
 MOST_TIMES_PRIOR = 3  # an unknown at so many times its prior is told
+MOST_CAPACITIES = 10  # that are listed
 STILL_FALLS = 0.95  # of the sum before: an iteration that leaves less is not the last that is worth it
 HEADER = (
     f"{'':>3} {'loadings':>8} {'counts':>11} {'prior':>9} {'GEH<5':>8} {'RMSN':>7} {'held':>8} {'RMSN':>7}"
@@ -118,6 +119,12 @@ def add_arguments(parser: argparse.ArgumentParser) -> None:
         metavar="N",
         help="how many demands that fit as well are loaded for the range (16)",
     )
+    parser.add_argument(
+        "--capacities",
+        metavar="BY",
+        help="fit factors for the capacities of stop lines too: of each `class` of links with one speed and jam"
+        " density, or of each `junction`",
+    )
     parser.add_argument("--processes", type=whole, default=1, metavar="N", help="how many sessions run at once (1)")
     parser.add_argument(
         "--scheduler", metavar="ADDRESS", help="the scheduler of a cluster of Dask, as tcp://10.0.0.7:8786"
@@ -173,11 +180,17 @@ def calibrate(args: argparse.Namespace) -> None:
 
 def check_options(args: argparse.Namespace) -> None:
     """A Fault where an option is out of its range."""
+    from ..calibrate.capacities import KINDS
+
     for name, values in (("hold", range(0, 91)), ("processes", range(1, 65)), ("samples", range(0, 1001))):
         if getattr(args, name) not in values:
             raise Fault(f"--{name} is from {values[0]} to {values[-1]}")
     if min(args.iterations, args.directions, args.rounds) < 0:
         raise Fault("--iterations, --directions and --rounds are not below 0")
+    if args.capacities not in (None, *KINDS):
+        raise Fault(f"--capacities is {' or '.join(KINDS)}")
+    if args.capacities and (args.rounds or args.scheduler):
+        raise Fault("--capacities cannot be used with --rounds or --scheduler")
 
 
 def asked(args: argparse.Namespace, case: Case, counts: list[Count]):  # type: ignore[no-untyped-def]
@@ -191,7 +204,7 @@ def asked(args: argparse.Namespace, case: Case, counts: list[Count]):  # type: i
         raise Fault(f"{args.case}: no demand stands in this case, and a prior is wanted")
     return (
         prior,
-        CalibrateOptions(args.iterations, args.directions, errors, args.processes, args.scheduler),
+        CalibrateOptions(args.iterations, args.directions, errors, args.processes, args.scheduler, args.capacities),
         held_out(counts, args.hold),
     )
 
@@ -267,6 +280,7 @@ def ending(search: Search, spread: Spread | None, done: Sequence[Iteration], arg
             f"of {counted(len(spread.known), 'unknown')} {much} are known to nine tenths by these counts, and {little}"
             f" to less than one"
         )
+    yield from capacity_lines(search, point, spread)
     units = [0] * len(search.prior.unknowns)
     for place, count in zip(search.prior.of.tolist(), rows.tolist()):
         units[place] += count
@@ -296,6 +310,16 @@ def hours_lines(begun: Trial, point: Trial, spread: Spread | None) -> Iterator[s
         yield f"{name}: {values[0]} by the prior, {values[1]} found{range_of(spread, place, HOURS.show)}"
     late = [vehicles_text(one.loaded.hours.late) for one in (begun, point)]
     yield f"not arrived by the end: {late[0]} by the prior, {late[1]} found{range_of(spread, 2, vehicles_text)}"
+
+
+def capacity_lines(search: Search, point: Trial, spread: Spread | None) -> Iterator[str]:
+    """The factors of capacities that are furthest from 1."""
+    from ..calibrate.result import capacity_rows
+
+    rows = [] if search.capacities is None else capacity_rows(search, point, spread)
+    for name, links, factor, known in sorted(rows, key=lambda row: -abs(float(str(row[2])) - 1))[:MOST_CAPACITIES]:
+        lines = counted(len(str(links).split()), "stop line")
+        yield f"{name}: {factor} of the capacity of {lines}" + ("" if known is None else f", known to {known}")
 
 
 def range_of(spread: Spread | None, place: int, show: Callable[[int], object]) -> str:
