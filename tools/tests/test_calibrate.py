@@ -402,6 +402,9 @@ class Corridor(FolderTest):
             (["--slice", "0.1"], "is no whole number of steps"),
             (["--hold", "91"], "--hold is from 0 to 90"),
             (["--processes", "0"], "--processes is from 1 to 64"),
+            (["--capacities", "lane"], "--capacities is class or junction"),
+            (["--capacities", "class", "--rounds", "1"], "cannot be used with --rounds"),
+            (["--capacities", "class"], "no link of this case has a stop line"),
         ):
             status, _, err = self.calibrated(*words)
             self.assertEqual((status, err.count("\n")), (1, 1), err)

@@ -44,6 +44,8 @@ EXAMPLES = """\
     ltm-tools calibrate examples/counts --counts examples/counts/counts.csv -o CALIBRATED
     ltm-tools calibrate CASE --counts counts.csv --times times.csv -o CALIBRATED --hold 20
     ltm-tools calibrate CASE --counts counts.csv -o CALIBRATED --slice 30 --errors errors.csv --processes 4
+    ltm-tools calibrate CASE --counts counts.csv -o CALIBRATED --hold 20 --rounds 4
+    ltm-tools calibrate CASE --counts counts.csv --times times.csv -o CALIBRATED --capacities class
 
 Counts are as `validate` takes them. CALIBRATED is a case like any other, with fit.csv, demand_fit.csv and
 iterations.csv. Each iteration prints a line: the number of loadings so far, the parts of the sum that is minimised
