@@ -352,7 +352,7 @@ class Command(FolderTest):
         )
         self.assertEqual(self.assign("--iterations", "3")[0], 0)
         first = self.texts()
-        with patch("ltm_tools.assign.assigning.ENDS", 1):
+        with patch("ltm_tools.assign.assigning.ends_at_once", return_value=1):
             for words in ((), ("--processes", "2")):
                 self.assertEqual(self.assign("--iterations", "3", *words)[0], 0)
                 self.assertEqual(self.texts(), first)

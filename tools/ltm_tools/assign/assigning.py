@@ -30,7 +30,7 @@ LOCKED = 0.02  # of the demand that has not arrived: it may be a gridlock
 NEAR = 1.5  # the relative gap at which a part of the demand is loaded no more
 POOR = 10.0  # the relative gap of a best loading from which a step into a gridlock has the demand loaded in parts
 BEST, FREE, PART = "best", "free", "part"  # names of shares that are kept
-ENDS = 8  # destinations that are worked out at once
+LEAST, CELLS, ROOM = 16, 2**15, 12_000_000  # see `ends_at_once`
 SEARCHED = 20_000_000  # origins times slots times links at which the program's gap takes a second or two
 
 
@@ -99,7 +99,8 @@ class Assignment:
         self.net = Net(case)
         check_ways(self.net)
         self.looker, self.spans = Looker(self.net), Spans.by_period(self.net.slots, period)
-        self.parts = parts_of(self.looker, case.standing_splits() if splits is None else splits, self.spans)
+        rows = case.standing_splits() if splits is None else splits
+        self.parts = parts_of(self.looker, rows, self.spans, options.processes)
         self.room = self.looker.room(self.spans)
         self.kept = Kept(BEST)
         self.crew = Crew(self.parts)
@@ -232,12 +233,22 @@ class Assignment:
         return case_with(self.case, self.best_rows)
 
 
-def parts_of(looker: Looker, splits: Iterable[Split], spans: Spans) -> list[Part]:
-    """The destinations of a case in parts, with the shares of split rows."""
+def ends_at_once(net: Net, processes: int) -> int:
+    """How many destinations are worked out at once: so many that links times destinations are a few tens of thousands,
+    which costs least for each, but no more than there is room for, and no fewer parts than processes."""
+    by_cells = max(LEAST, CELLS // len(net.names))
+    by_room = max(LEAST // 2, ROOM // (net.slots * len(net.node_names)))
+    return max(1, min(by_cells, by_room, len(net.end_names) // processes))
+
+
+def parts_of(looker: Looker, splits: Iterable[Split], spans: Spans, processes: int = 1) -> list[Part]:
+    """The destinations of a case in parts, as many for each of so many processes, with the shares of split rows."""
     net, rows = looker.net, list(splits)
+    count = -(-len(net.end_names) // ends_at_once(net, processes))
     found = []
-    for first in range(0, len(net.end_names), ENDS):
-        places = numpy.arange(first, min(first + ENDS, len(net.end_names)))
+    for places in numpy.array_split(numpy.arange(len(net.end_names)), -(-count // processes) * processes):
+        if not len(places):
+            continue
         own = net.part(places)
         departures = looker.departures.part(places, len(net.end_names))
         found.append(Part(own, departures, of_splits(own, rows, spans), spans))

@@ -6,6 +6,7 @@ it is to each. Each sum is made one number at a time, in the order of links, so 
 from __future__ import annotations
 
 from copy import copy
+from itertools import accumulate
 
 import numpy
 
@@ -49,29 +50,47 @@ def arriving(net: Net, moments: Whole) -> tuple[Whole, Real]:
     return boundary, part
 
 
+class Used:
+    """The pairs of a link and a destination by which shares of a span lead, in groups in which none leads to the same
+    node for the same destination."""
+
+    def __init__(self, net: Net, weights: Whole) -> None:
+        """By the weights of the span, `[L, D]`."""
+        groups = [numpy.argwhere(weights[links] > 0) for links in net.into]
+        self.cuts = tuple(accumulate(map(len, groups), initial=0))
+        places = [links[pairs[:, 0]] for links, pairs in zip(net.into, groups)]
+        self.link, end = numpy.concatenate(places), numpy.concatenate([pairs[:, 1] for pairs in groups])
+        self.share = weights[self.link, end] / WHOLE
+        self.source, self.to = (of[self.link] * weights.shape[1] + end for of in (net.tail, net.head))
+
+
 def flows(net: Net, leave: Whole, set_out: Real, weights: Whole, spans: Spans) -> Real:
     """What is at each node for each destination at each boundary, `[slots + 1, N, D]`. `set_out` is what leaves
     origins' queues, in the same shape with a boundary more, and is used up; `weights` are the shares `[spans, L,
     D]`."""
-    found = set_out
     boundary, part = arriving(net, leave)
-    shares = weights / WHOLE
     columns = numpy.arange(len(net.end_names))
-    for k in range(net.slots):
-        here = found[k]
-        here[net.ends, columns] = 0
-        busy = here.any(axis=1)
-        if not busy.any():
-            continue
-        out = here.take(net.tail, axis=0) * shares[spans.of[k]]
-        later = out * part[k][:, None]
-        out -= later
-        for links in net.into:
-            links = links[busy[net.tail[links]]]
-            at, heads = boundary[k, links], net.head[links]
-            found[at, heads] += out[links]
-            found[at + 1, heads] += later[links]
-    return found[:-1]
+    flat, size = set_out.reshape(-1), set_out.shape[1] * set_out.shape[2]
+    boundary = boundary * size
+    for span in range(len(spans)):
+        used = Used(net, weights[span])
+        for k in range(int(spans.starts[span]), int(spans.ends[span])):
+            here = set_out[k]
+            here[net.ends, columns] = 0
+            if not here.any():
+                continue
+            out = here.reshape(-1).take(used.source)
+            out *= used.share
+            later = out * part[k].take(used.link)
+            out -= later
+            at = boundary[k].take(used.link)
+            at += used.to
+            for start, end in zip(used.cuts, used.cuts[1:]):
+                places = at[start:end]
+                flat[places] += out[start:end]
+                places += size
+                flat[places] += later[start:end]
+    return set_out[:-1]
 
 
 def leaving_origins(net: Net, departures: Departures, moments: Whole) -> Real:

@@ -14,7 +14,7 @@ from typing import NamedTuple
 import numpy
 
 from .flows import Departures
-from .labels import Labels
+from .labels import Label, Labels
 from .net import Real, Whole
 
 
@@ -38,7 +38,7 @@ def gaps(departures: Departures, moments: Whole, labels: Labels) -> list[Gap]:
     boundary, `[slots + 1, N]`."""
     net, at, end = labels.net, departures.at, departures.end
     left = moments[at, departures.origin]
-    mean, best = (_label(labels, label, left, departures) for label in (labels.means, labels.bests))
+    mean, best = (_label(label, left, departures) for label in (labels.means, labels.bests))
     arrives = mean <= net.slots * net.step
     amount = numpy.where(arrives, departures.amount, 0.0)
     lost, spent = amount * (mean - best), amount * (mean - at * net.step)
@@ -70,10 +70,13 @@ def sums_by(group: Whole, amounts: Real) -> Real:
     return numpy.asarray(numpy.bincount(number, amounts), dtype=numpy.float64)
 
 
-def _label(labels: Labels, label: Whole, left: Whole, departures: Departures) -> Real:
-    """A label at the moments at which origins' queues are left."""
-    net = labels.net
+def _label(label: Label, left: Whole, departures: Departures) -> Real:
+    """The arrival by a label from the moments at which origins' queues are left."""
+    net = label.net
     boundary = numpy.minimum(left // net.step, net.slots)
-    part = (left - boundary * net.step) / net.step
-    low, high = (label[boundary + later, departures.origin, departures.end] for later in (0, 1))
-    return numpy.asarray(low + (high - low) * part)
+    low, high = (
+        label.values[boundary + later, departures.origin, departures.end].astype(numpy.int64)
+        + (boundary + later) * net.step
+        for later in (0, 1)
+    )
+    return numpy.asarray(low + (high - low) * ((left - boundary * net.step) / net.step))

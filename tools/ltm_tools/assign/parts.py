@@ -12,7 +12,7 @@ from typing import NamedTuple
 
 from .flows import Departures, flows, leaving_origins
 from .gaps import Gap, gaps
-from .labels import Labels
+from .labels import Course, Labels
 from .looking import Times
 from .net import Net, Real, Whole
 from .regret import lost_times
@@ -61,7 +61,7 @@ class Part:
     def look(self, times: Times) -> Told:
         """What a loading with these times and the shares of now says."""
         flow = self.flow(times)
-        labels = self.labels = Labels(self.net, times.leave, flow, self.weights, self.spans)
+        labels = self.labels = Labels(self.net, Course(self.net, times.leave), flow, self.weights, self.spans)
         found = gaps(self.departures, times.set_out, labels)
         labels.let_go()
         lost = lost_times(self.net, labels, self.weights)
