@@ -5,6 +5,7 @@ import unittest
 import zipfile
 from pathlib import Path
 
+from browser import ENTER
 from made_live import needs_live
 from support import BUILT, CLONE, needs_program
 from support_live_page import LivePage
@@ -77,6 +78,9 @@ class Route(LivePage):
         self.assertEqual(self.browser.run(names), ROUTE[:2])
         self.click("south_centre")  # which no road leads to from there
         self.assertRegex(self.text("#notice"), "^No way leads from north_centre to south_centre")
+        self.press("#search")
+        self.browser.type("centre_east" + ENTER)
+        self.assertEqual(self.browser.run(names), ROUTE)
         self.assertEqual(self.browser.run(WAY), [2, 3, 4])
         self.browser.run("live.send({route: ['west_north', 'centre_east']})")
         self.browser.until("return /centre_east begins at/.test(document.getElementById('notice').textContent)")

@@ -50,6 +50,7 @@ export class Route {
 
   put(links) {
     Object.assign(this, { links, told: null, rows: [] });
+    this.live.state.route = null;
     this.tell();
     this.draw();
     this.live.draw();
