@@ -1,0 +1,3 @@
+pub mod Scattered
+pub mod Gathered
+pub mod Summing
