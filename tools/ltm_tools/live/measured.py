@@ -6,9 +6,8 @@ from pathlib import Path
 
 from ..case import Case
 from ..counting.result import misfits, read_fit, sums_by_link
-from ..errors import Fault
 from ..listing import rounded
-from ..show.page import told_misfits
+from ..show.page import numbers_of, told_misfits
 from ..worth.result import read_worths, savings
 from .messages import Told
 
@@ -29,7 +28,7 @@ def told_fit(path: Path, case: Case) -> Told:
     rows = read_fit(path)
     told = told_misfits(case, misfits(rows))
     sums = sums_by_link(rows)
-    number = {link.name: str(place) for place, link in enumerate(case.links)}
+    number = numbers_of(case, sums, "fit")
     counts = {
         number[link]: [float(rounded(one.numerator, one.denominator, 1)) for one in both] for link, both in sums.items()
     }
@@ -40,9 +39,6 @@ def told_worths(path: Path, case: Case) -> Told:
     """What more capacity saves."""
     if not path.exists():
         return {"worths": {}}
-    number = {link.name: str(place) for place, link in enumerate(case.links)}
     found = savings(read_worths(path))
-    unknown = [name for name in found if name not in number]
-    if unknown:
-        raise Fault(f"{path}: this table is not of this case, which has no link {unknown[0]}")
+    number = numbers_of(case, found, "table of worths")
     return {"worths": {number[name]: saved for name, saved in found.items()}}

@@ -1,16 +1,16 @@
 // The page of `ltm-tools page`. All counts are thousandths of a vehicle, all times milliseconds, as in the files of a
 // case.
+import { MOST_MISFIT, UNITS, flowWords, misfitWords, worthUnit, worthWords } from "./amounts.js";
 import { drawChart, drawKey, drawMoment } from "./chart.js";
 import { middleOf } from "./geometry.js";
 import { SIGNS, drawScale, drawSigns } from "./legend.js";
 import { Loading } from "./loading.js";
 import { RoadMap } from "./map.js";
-import { signed, vehicles } from "./numbers.js";
+import { vehicles } from "./numbers.js";
 import { Player } from "./play.js";
 import { drawStory, marksOf } from "./story.js";
 import { EffectTable, QueueTable } from "./tables.js";
 
-const MOST_MISFIT = 30;  // per cent
 const TALL = { upper: 190, lower: 130 };
 const $ = id => document.getElementById(id);
 const data = JSON.parse($("data").textContent), cases = data.cases.map(told => new Loading(told));
@@ -33,11 +33,11 @@ const SHOWN = {
   // the queue now against the base, whichever of them is shown
   change: { amount: link => now.queue(link, hereK()) - base.queue(link, hereK()), ...stored, both: true },
   flow: { amount: link => here().flow(link, hereK()), most: all => here().mostFlow(all, hereK()),
-    unit: "% of the capacity", scale: 100 },
+    unit: UNITS.flow, scale: 100 },
   misfit: { amount: link => here().misfits[link] || 0, most: all => MOST_MISFIT * (all.filter(isCounted).length || 1),
-    unit: "% more than counted", scale: MOST_MISFIT, both: true },
+    unit: UNITS.misfit, scale: MOST_MISFIT, both: true },
   worth: { amount: link => here().savings[link] || 0, most: () => mostSaved,
-    unit: `${data.savings} saved by more capacity`, scale: mostSaved, both: true },
+    unit: worthUnit(data.savings), scale: mostSaved, both: true },
 };
 const shown = () => SHOWN[state.shown];
 
@@ -50,11 +50,11 @@ function tell(what) {
   if (what.node !== undefined) return `origin ${nameOf(what)}: ${vehicles(waits(what.node))} waiting`;
   if (what.link === undefined) return "";
   const [standing, queue] = ["standing", "queue"].map(of => vehicles(here()[of](what.link, hereK())));
-  const flow = `${vehicles(here().flow(what.link, hereK()))} left it in 15 minutes`, name = here().shown(nameOf(what));
+  const flow = flowWords(here().flow(what.link, hereK())), name = here().shown(nameOf(what));
   const more = here().misfits[what.link];
-  const counted = more === undefined ? "" : `, ${signed(more.toFixed(1), more)} % loaded over counted`;
+  const counted = more === undefined ? "" : `, ${misfitWords(more)}`;
   const saved = here().savings[what.link];
-  const worth = saved === undefined ? "" : `, more capacity saves ${saved.toFixed(2)} ${data.savings}`;
+  const worth = saved === undefined ? "" : `, ${worthWords(saved.toFixed(2), data.savings)}`;
   return `${name}: ${standing} on it, ${queue} in the queue, ${flow}${counted}${worth}`;
 }
 
