@@ -11,6 +11,7 @@ from __future__ import annotations
 import math
 from collections.abc import Iterator, Sequence
 from dataclasses import replace
+from fractions import Fraction
 from types import TracebackType
 from typing import NamedTuple
 
@@ -141,9 +142,7 @@ class Rounds:
 
 
 def held_misfit(search: Search, trial: Trial) -> float:
-    """The sum of squares of the misfits of counts that are held out, in errors; 0 where there are none."""
+    """The sum of squares of the misfits of counts that are held out, in vehicles, as RMSN has it; 0 where there are
+    none."""
     pairs = zip(search.target.counts, trial.loaded.counts)
-    squares = [
-        float((count.vehicles - units / 1000) ** 2 / count.square) for count, units in pairs if count.use == HOLD
-    ]
-    return math.fsum(squares)
+    return math.fsum(float(count.vehicles - Fraction(units, 1000)) ** 2 for count, units in pairs if count.use == HOLD)
