@@ -44,13 +44,14 @@ def gaps(departures: Departures, moments: Whole, labels: Labels) -> list[Gap]:
     lost, spent = amount * (mean - best), amount * (mean - at * net.step)
     spans = labels.spans.of[numpy.minimum(at, net.slots - 1)]
     group = (end * len(labels.spans) + spans) * len(net.node_names) + departures.origin
+    ends, groups = len(net.end_names), len(labels.spans) * len(net.node_names)
+    of_groups = numpy.bincount(group, lost, ends * groups).reshape(ends, groups)
     found = []
-    for place in range(len(net.end_names)):
+    for place, of_group in enumerate(of_groups):
         chosen = end == place
-        of_group = sums_by(group[chosen], lost[chosen])
         found.append(
             Gap(
-                math.fsum(numpy.maximum(of_group, 0.0).tolist()),
+                math.fsum(of_group[of_group > 0].tolist()),
                 math.fsum(spent[chosen].tolist()),
                 math.fsum(amount[chosen].tolist()),
                 math.fsum(departures.amount[chosen].tolist()),
@@ -62,12 +63,6 @@ def gaps(departures: Departures, moments: Whole, labels: Labels) -> list[Gap]:
 def together(parts: list[Gap]) -> Gap:
     """The gap of several destinations."""
     return Gap(*(math.fsum(numbers) for numbers in zip(*parts)))
-
-
-def sums_by(group: Whole, amounts: Real) -> Real:
-    """The sums of amounts by group."""
-    _, number = numpy.unique(group, return_inverse=True)
-    return numpy.asarray(numpy.bincount(number, amounts), dtype=numpy.float64)
 
 
 def _label(label: Label, left: Whole, departures: Departures) -> Real:
