@@ -112,7 +112,7 @@ class Texts(FolderTest):
             {"a": 20_000_000, "b": -5_000_000},
         )
         shown = figure.axes[0].collections[1]
-        self.assertEqual((list(shown.get_array()), shown.get_clim()), ([20, -5], (-20, 20)))
+        self.assertEqual((list(shown.get_array()), shown.get_clim()), ([-5, 20], (-20, 20)))
         self.assertEqual(figure.axes[1].get_ylabel(), "vehicle seconds that more capacity saves")
 
     def test_axes(self) -> None:

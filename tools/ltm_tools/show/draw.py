@@ -3,7 +3,7 @@ cumulative curves of a path. Times are clock times."""
 from __future__ import annotations
 
 import math
-from collections.abc import Mapping, Sequence
+from collections.abc import Callable, Mapping, Sequence
 from fractions import Fraction
 from typing import TYPE_CHECKING, Any
 
@@ -175,9 +175,12 @@ def draw_worths(plot: Any, one: LoadedCase, folder: str, title: str, savings: Ma
     unit = time_unit(*savings.values())
     times = {link: float(unit.show(time)) for link, time in savings.items()}
     most = max((abs(time) for time in times.values()), default=0.0) or 1.0
-    return draw_signed(
-        plot, one, folder, title, times, most, f"{unit.name} that more capacity saves", "table of worths"
-    )
+    label = f"{unit.name} that more capacity saves"
+
+    def width(part: float) -> float:
+        return 1.6 + 3 * part if 100 * part >= LEAST_PERCENT else 0
+
+    return draw_signed(plot, one, folder, title, times, most, label, "table of worths", width)
 
 
 def draw_signed(
@@ -189,8 +192,10 @@ def draw_signed(
     most: float,
     label: str,
     table: str,
+    width: Callable[[float], float] = lambda part: 3.6,
 ) -> "Figure":
-    """The network, links coloured by values of a table from blue, at so much below 0, to red, at so much above."""
+    """The network, links coloured by values of a table from blue, at so much below 0, to red, at so much above, and of
+    a width by what part of that they are."""
     from matplotlib.collections import LineCollection
 
     unknown = [name for name in values if all(link.name != name for link in one.case.links)]
@@ -201,9 +206,11 @@ def draw_signed(
     figure, axes = plot.subplots(figsize=(8, 6), layout="constrained")
     at, lines = roads(one, folder)
     axes.add_collection(LineCollection(lines, colors="#c3ccd5", linewidths=1.6, zorder=1))
-    known = [k for k, link in enumerate(one.case.links) if link.name in values]
+    order = sorted((abs(values[link.name]), k) for k, link in enumerate(one.case.links) if link.name in values)
+    known = [k for _, k in order]
     parts = [values[one.case.links[k].name] for k in known]
-    shown = LineCollection([lines[k] for k in known], cmap="RdBu_r", linewidths=3.6, zorder=2)
+    widths = [width(abs(part) / most) for part in parts]
+    shown = LineCollection([lines[k] for k in known], cmap="RdBu_r", linewidths=widths, zorder=2)
     shown.set_array(parts)
     shown.set_clim(-most, most)
     axes.add_collection(shown)
