@@ -268,7 +268,7 @@ class Tables(FolderTest):
         self.assertEqual(commands.run("plot", "counts", str(fit), str(self.folder / "s.png"))[0], 0)
         words = ("draw", "map", case, "--curves", f"{case}/curves.csv", "-o", str(self.folder / "m.png"))
         self.assertEqual(commands.run(*words, "--fit", str(fit))[0], 0)
-        self.assertIn("say one of the two", commands.run(*words)[2])
+        self.assertIn("say one of them", commands.run(*words)[2])
         fit.write_text(text.replace("a b", "a z"))
         self.assertIn("it has no link z", commands.run(*words, "--fit", str(fit))[2])
 
