@@ -16,6 +16,7 @@ from pathlib import Path
 
 from support import BUILT, CLONE
 
+DOCUMENTS = sorted([CLONE / "README.md", *(CLONE / "docs").glob("*.md"), *(CLONE / "examples").glob("**/README.md")])
 MARK = re.compile(r"<!-- not run: (.+) -->")
 COMMAND = re.compile(
     r"\./ltm |tools/[\w-]+|examples/[\w/]+(?:\.py|run)\b|(?:cp|sed|mkdir|echo|printf|cat|grep|export|sudo|cd) |"

@@ -1,7 +1,17 @@
 """A net of SUMO by hand, and the files that `from-sumo` reads beside it."""
+import shutil
+import subprocess
+
 from support import FolderTest
 import commands
 from ltm_tools.case import Case
+
+
+def release() -> str:
+    """The release of SUMO that is there, or nothing."""
+    if any(shutil.which(word) is None for word in ("sumo", "netgenerate", "duarouter")):
+        return ""
+    return subprocess.run(["sumo", "--version"], capture_output=True, text=True).stdout.split("\n")[0].strip()
 
 
 def edge(

@@ -1,6 +1,5 @@
 """The comparison of a loading with SUMO's mesoscopic run, on what SUMO and the program write, made by hand."""
 import importlib.util
-import shutil
 import subprocess
 import sys
 import unittest
@@ -9,6 +8,7 @@ from pathlib import Path
 from typing import Any
 
 from support import BUILT, EXAMPLES, FolderTest, needs, needs_program
+from support_sumo import release
 
 from ltm_tools.case import Case, Demand, Link, Setup
 from ltm_tools.case.source import Source, SourceLink
@@ -129,13 +129,6 @@ class Read(FolderTest):
         lines = compare.links_table({"a": Fraction(3600), "b": Fraction(7200)}, {"a": Fraction(1800), "c": Fraction(0)})
         self.assertEqual(lines[2].split(), ["1", "b", "2.00", "0.00", "(-)", "a", "1.00", "0.50", "(2)"])
         self.assertEqual(lines[-1], "1 of them stand on both sides")
-
-
-def release() -> str:
-    """The release of SUMO that is there, or nothing."""
-    if any(shutil.which(word) is None for word in ("sumo", "netgenerate", "duarouter")):
-        return ""
-    return subprocess.run(["sumo", "--version"], capture_output=True, text=True).stdout.split("\n")[0].strip()
 
 
 @needs_program

@@ -9,9 +9,9 @@ import unittest
 from collections.abc import Iterator
 
 from support import CLONE
+from support_documents import DOCUMENTS
 from ltm_tools import cli
 
-DOCUMENTS = sorted([CLONE / "README.md", *(CLONE / "docs").glob("*.md"), *(CLONE / "examples").glob("**/README.md")])
 TOOL = re.compile(r"(?:\$ )?(?:tools/)?ltm-tools (?=[a-z-])")
 LINK = re.compile(r"\]\(([^)#\s]+)(?:#[^)\s]*)?\)")
 ANCHOR = re.compile(r"\]\(([^)#\s]*)#([^)\s]*)\)")

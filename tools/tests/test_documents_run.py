@@ -8,8 +8,8 @@ from pathlib import Path
 
 import support_documents as documents
 from support import CLONE, FolderTest, lack_of, needs_program
-from test_beside_sumo import release
-from test_documents import DOCUMENTS
+from support_documents import DOCUMENTS
+from support_sumo import release
 
 REASONS = {
     "it changes the machine": 1,  # sudo tools/setup

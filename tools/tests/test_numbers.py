@@ -11,7 +11,7 @@ from pathlib import Path
 
 import support_documents as documents
 from support import CLONE
-from test_documents import DOCUMENTS
+from support_documents import DOCUMENTS
 
 DECIMAL = re.compile(
     r"(?<![\w.,/:#-])(\d[\d,]*\.\d+)(?![\w.]*\.\d|\w)(?: (vehicle hours|vehicle seconds|hours|h|s|ms|MB)(?!\w))?"
