@@ -17,12 +17,19 @@ from typing import NamedTuple
 sys.dont_write_bytecode = True
 sys.path.insert(0, str(Path(__file__).resolve().parents[2] / "tools"))
 
+from ltm_tools import libraries  # noqa: E402
+from ltm_tools.errors import Fault  # noqa: E402
+
+try:
+    libraries.need(("numpy",), script=__file__)
+except Fault as fault:
+    sys.exit(f"gains.py: {fault}")
+
 from ltm_tools.assign.closing import RESPONDING  # noqa: E402
 from ltm_tools.assign.closure import WORDS, Closure, Cost  # noqa: E402
 from ltm_tools.assign.spread import costs  # noqa: E402
 from ltm_tools.case import Case  # noqa: E402
 from ltm_tools.commands.arguments import add_program_argument, clock  # noqa: E402
-from ltm_tools.errors import Fault  # noqa: E402
 from ltm_tools.listing import HOURS  # noqa: E402
 
 

@@ -66,16 +66,17 @@ def packages_of(names: Sequence[str]) -> str:
     return " ".join(PACKAGES.get(name, name) for name in names)
 
 
-def need(names: Sequence[str], more: str = "") -> None:
-    """Returns where all these libraries are there; else runs the command anew by Debian's Python where that has them,
-    and else raises a Fault that names all the packages, and what `more` says."""
+def need(names: Sequence[str], more: str = "", script: str | None = None) -> None:
+    """Returns where all these libraries are there; else runs the command, or this script, anew by Debian's Python where
+    that has them, and else raises a Fault that names all the packages, and what `more` says."""
     absent = missing(names)
     if not absent:
         return
     modules = [name for name in absent if name != D3]
     if modules and TRIED not in os.environ and debian_has([name for name in names if name != D3]):
         sys.stdout.flush()
-        arguments = [DEBIAN_PYTHON, "-c", RUN, str(Path(__file__).resolve().parents[1]), *sys.argv[1:]]
+        tools = ["-c", RUN, str(Path(__file__).resolve().parents[1])]
+        arguments = [DEBIAN_PYTHON, *(tools if script is None else [script]), *sys.argv[1:]]
         os.execve(DEBIAN_PYTHON, arguments, {**os.environ, TRIED: "1"})
     raise Fault(f"{lack_of(absent)}{more}")
 

@@ -1,6 +1,5 @@
 """The scripts beside the examples, which make networks and set loadings beside other programs."""
 import subprocess
-import sys
 import unittest
 
 from support import CLONE, needs_numpy
@@ -14,7 +13,7 @@ class Scripts(unittest.TestCase):
         self.assertGreater(len(scripts), 5)
         for script in scripts:
             with self.subTest(script=script.name):
-                done = subprocess.run([sys.executable, script, "--help"], capture_output=True, text=True)
+                done = subprocess.run([script, "--help"], capture_output=True, text=True)
                 self.assertEqual((done.returncode, done.stdout[:6], done.stderr), (0, "usage:", ""))
 
 
