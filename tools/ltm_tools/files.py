@@ -179,7 +179,7 @@ class Row:
         if text:
             return text
         if default is None:
-            raise self.fault(field, "it is wanted")
+            raise self.fault(field, "expected a value")
         return default
 
     def number(self, field: str, default: int | Fraction | None = None) -> Fraction:
@@ -196,7 +196,7 @@ class Row:
         """The whole number of a field."""
         number = self.number(field, default)
         if number.denominator != 1:
-            raise self.fault(field, "a whole number is wanted")
+            raise self.fault(field, "expected a whole number")
         return number.numerator
 
 
@@ -225,7 +225,7 @@ def read_table(path: str | os.PathLike[str], wanted: Sequence[str] = ()) -> list
     except csv.Error as error:
         raise Fault(f"{path}: line {reader.line_num}: {error}") from None
     if not rows:
-        raise Fault(f"{path}: the file is empty, and a header with {', '.join(wanted) or 'fields'} is wanted")
+        raise Fault(f"{path}: the file is empty; expected a header with {', '.join(wanted) or 'fields'}")
     names = [name.strip() for name in rows[0][1]]
     missing = [name for name in wanted if name not in names]
     if missing:
@@ -295,6 +295,6 @@ def make_folder(path: str | os.PathLike[str]) -> None:
     try:
         make_folders(path)
     except (FileExistsError, NotADirectoryError):
-        raise Fault(f"{path}: a file stands there, and a folder is wanted") from None
+        raise Fault(f"{path}: a file stands there; expected a folder") from None
     except OSError as error:
         raise Fault(f"{path}: {error.strerror or error}") from None

@@ -30,7 +30,7 @@ RATIO = re.compile(r"[0-9]+/[0-9]+", re.ASCII)
 MOST_NUMBER, MOST_SIGNS, MOST_POWERS = 10**15, 60, range(-400, 61)
 LEAST_ABOVE_0 = Fraction(1, 10**30)  # of one that others are divided by
 LONGEST_SECONDS = 10_000_000  # of a time in files of others: some 115 days
-NUMBER_RULE = "a number is wanted, of at most 10^15 and written with at most 60 signs"
+NUMBER_RULE = "expected a number, of at most 10^15 and written with at most 60 signs"
 WEIGHTS_RULE = "1 to 4 entries NAME=NUMBER with one space between two, and no name twice"
 
 # amounts, in thousandths of a vehicle
@@ -127,7 +127,7 @@ def above_0_or_none(text: str) -> Fraction | None:
 
 def number_rule(text: str) -> str:
     """What is wrong with a text that tells no number."""
-    return NUMBER_RULE if NUMBER.fullmatch(text.strip()) else "a number is wanted"
+    return NUMBER_RULE if NUMBER.fullmatch(text.strip()) else "expected a number"
 
 
 def units_or_none(text: str) -> int | None:

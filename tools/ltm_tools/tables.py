@@ -143,7 +143,7 @@ class Stream:
         self.records = self.records_of(chain([first] if first else [], lines))
         line, header = next(self.records, (0, []))
         if not header:
-            raise Fault(f"{path}: the file is empty, and a header with {', '.join(wanted) or 'fields'} is wanted")
+            raise Fault(f"{path}: the file is empty; expected a header with {', '.join(wanted) or 'fields'}")
         self.header = [field.strip() for field in header]
         self.fields = tuple(known_fields([field.lower() for field in self.header], names or {}))
         self.written = dict(zip(self.fields, self.header))

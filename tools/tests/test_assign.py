@@ -31,7 +31,7 @@ if not libraries.missing(("numpy",)):
     from ltm_tools.assign.result import read_iterations
     from ltm_tools.assign.shares import check_ways
 
-NO_FOLDER = "a file stands there, and a folder is wanted"
+NO_FOLDER = "a file stands there; expected a folder"
 # the same with `slow` as a turn that yields to `fast` for the whole of each cycle
 TURNS = (
     "approach,exit,link,vehicles,lanes,saturation,cycle,offset,greens,permitted,opposing,opposing_saturation,"

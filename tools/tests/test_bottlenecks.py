@@ -91,8 +91,8 @@ class TheTable(FolderTest):
         costs = "entry,1800.0,180.0,1.000000,1.000,0.000,-180.0,0,0,0.000,0.02,1,0,1,,a"
         self.assertEqual(self.read(f"a,{row}", f"b,{none}", f"c,{costs}"), {"a": 20_000_001, "c": -1_000_000})
         for wrong, told in (
-            (f"a,{row.replace('stop line', 'bridge')}", "one of stop line, entry, road is wanted"),
-            (f"a,{row.replace('-20.000001', 'x')}", "row 2: more_travel_time_s is .x.: a number"),
+            (f"a,{row.replace('stop line', 'bridge')}", "expected one of stop line, entry, road"),
+            (f"a,{row.replace('-20.000001', 'x')}", "row 2: more_travel_time_s is .x.: expected a number"),
         ):
             with self.assertRaisesRegex(Fault, told):
                 self.read(wrong)

@@ -486,22 +486,26 @@ class Scripts(FolderTest):
             (
                 '{"do": "time", "link": "a", "slot": "3"}',
                 "NotCommand 0",
-                'the member slot is "3", and a whole number from 0 to 4294967295 is wanted: "3" as the number 3',
+                'the member slot is "3"; expected a whole number from 0 to 4294967295: "3" as the number 3',
             ),
             ('{"do": "time", "link": "a", "slot": 3.0}', "NotCommand 0", "the member slot is 3.0"),
-            ('{"do": "time", "link": "a", "slot": -0}', "NotCommand 0", "the member slot is -0.0, and a whole number"),
+            (
+                '{"do": "time", "link": "a", "slot": -0}',
+                "NotCommand 0",
+                "the member slot is -0.0; expected a whole number",
+            ),
             ('{"do": "time", "link": "a", "slot": true}', "NotCommand 0", "the member slot is true"),
-            ('{"do": "link", "link": "a b"}', "NotCommand 0", 'the member link is "a b", and a name'),
+            ('{"do": "link", "link": "a b"}', "NotCommand 0", 'the member link is "a b"; expected a name'),
             ('{"do": "edit"}', "NotCommand 0", "the member edits was looked for"),
-            ('{"do": "edit", "edits": []}', "NotCommand 0", "the member edits has 0 edits, and 1 to 32 are wanted"),
+            ('{"do": "edit", "edits": []}', "NotCommand 0", "the member edits has 0 edits; expected 1 to 32"),
             (
                 '{"do": "edit", "edits": [{"kind": "horizon", "slots": 5}, {"kind": "limit", "link": "a", '
                 '"from": 0, "to":'
                 ' 1, "vehicles": 0}]}',
                 "NotCommand 2",
-                "the member vehicles is 0, and a text with vehicles (digits, or digits, a point and 1 to 3 "
+                "the member vehicles is 0; expected a text with vehicles (digits, or digits, a point and 1 to 3 "
                 "digits, at most"
-                ' 1000000 vehicles) is wanted: 0 as the text "0"',
+                ' 1000000 vehicles): 0 as the text "0"',
             ),
             (
                 '{"do": "edit", "edits": [{"kind": "close"}]}',
@@ -512,7 +516,7 @@ class Scripts(FolderTest):
                 '{"do": "edit", "edits": [{"kind": "split", "node": "a", "destination": "b", "from": 0, "weights":'
                 ' "a=1"}]}',
                 "NotCommand 1",
-                'the member weights is "a=1", and an object',
+                'the member weights is "a=1"; expected an object',
             ),
             (
                 '{"do": "edit", "edits": [{"kind": "split", "node": "a", "destination": "b", "from": 0, '
@@ -568,11 +572,10 @@ class Scripts(FolderTest):
         for rows, part in (
             ('"row": [[0, {"a": 1}]]', "the member rows was looked for, and is not there"),
             ('"rows": []', "the member rows is empty"),
-            ('"rows": [[0, {"a": 1}], 5]', "row 2 of the member rows is 5, and a slot and weights are wanted"),
+            ('"rows": [[0, {"a": 1}], 5]', "row 2 of the member rows is 5; expected a slot and weights"),
             (
                 '"rows": [["0", {"a": 1}]]',
-                'row 1 of the member rows: the member slot is "0", and a whole number from 0 to 4294967295'
-                " is wanted",
+                'row 1 of the member rows: the member slot is "0"; expected a whole number from 0 to 4294967295',
             ),
             ('"rows": [[0, {"a": 1}], [1, {}]]', "row 2 of the member rows: the member weights has 0 members"),
             ('"rows": [[0, {"a": "1"}]]', 'row 1 of the member rows: the member a is "1"'),

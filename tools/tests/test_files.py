@@ -42,7 +42,7 @@ class Tables(FolderTest):
         self.assertEqual(
             (row.whole("id"), row.number("length"), row.text("name"), row.number("lanes", 1)), (7, 1.5, "Müller", 1)
         )
-        with self.assertRaisesRegex(Fault, 'table.csv row 2: length is "1.5": a whole number is wanted'):
+        with self.assertRaisesRegex(Fault, 'table.csv row 2: length is "1.5": expected a whole number'):
             row.whole("length")
 
     def test_faults(self) -> None:

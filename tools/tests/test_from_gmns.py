@@ -204,7 +204,7 @@ class Fields(GmnsTest):
         self.net(PLAIN.replace("b,2,3,1000,1,60", "b,2,3,1000,1,fast"))
         self.assertEqual(
             self.refused(),
-            "cannot be carried: link b: free_speed is 'fast', and a number above 0 is wanted; left empty"
+            "cannot be carried: link b: free_speed is 'fast'; expected a number above 0; left empty"
             " it is set by the link's kind\n",
         )
 
@@ -225,14 +225,14 @@ class Fields(GmnsTest):
                 status, _, err = self.make()
                 self.assertNotIn("Traceback", err)
                 self.assertTrue(
-                    status == 0 and text == "nan" or "and a number above 0 is wanted" in err or "no length" in err,
+                    status == 0 and text == "nan" or "expected a number above 0" in err or "no length" in err,
                     (text, old, err),
                 )
             self.net(PLAIN, demand=f"o_zone_id,d_zone_id,volume\n1,3,{text}\n")
             shutil.rmtree(self.folder / "case", ignore_errors=True)
             self.assertRegex(
                 self.refused(),
-                r"demand\.csv line 2: volume is \".*: a number is wanted|vehicles, and 0 to 1000000 are allowed",
+                r"demand\.csv line 2: volume is \".*: expected a number|vehicles, and 0 to 1000000 are allowed",
             )
             (self.folder / "net" / "demand.csv").unlink()
         self.net(PLAIN, demand="o_zone_id,d_zone_id,volume\n1,3,3.2e-41\n1,2,4\n")

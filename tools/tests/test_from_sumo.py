@@ -60,9 +60,9 @@ class Network(SumoTest):
 
     def test_files_that_are_no_nets(self) -> None:
         self.assertIn("this is no XML file, or it is cut off", self.refused(net="<edge"))
-        self.assertIn("a net of SUMO is wanted", self.refused(net=""))
+        self.assertIn("expected a net of SUMO", self.refused(net=""))
         self.assertIn("--vehicle-class", self.refused(net=edge("walk", "A", "C", lane='allow="pedestrian"')))
-        self.assertIn("and a number is wanted", self.refused(net=edge("a", "A", "B", speed="fast")))
+        self.assertIn("expected a number", self.refused(net=edge("a", "A", "B", speed="fast")))
         (self.folder / "x.xml").write_text("<nodes><node id='a'/></nodes>")
         status, _, err = commands.run("from-sumo", str(self.folder / "x.xml"), str(self.folder / "case"))
         self.assertEqual((status, err.count("\n")), (1, 1))
@@ -167,8 +167,8 @@ class Edges(SumoTest):
         flow = '<flow id="f" begin="{}" end="{}" {}><route edges="in on"/></flow>'
         for told, words in (
             ("1,000,000,000 vehicles, and at most 3,000,000 may set out", ("0", "3600", 'number="1000000000"')),
-            ("is no number: a number is wanted, of at most 10^15", ("0", "3600", 'number="1e99999999"')),
-            ("is no number: a number is wanted, of at most 10^15", ("0", "3600", 'vehsPerHour="1e308"')),
+            ("is no number: expected a number, of at most 10^15", ("0", "3600", 'number="1e99999999"')),
+            ("is no number: expected a number, of at most 10^15", ("0", "3600", 'vehsPerHour="1e308"')),
             ("vehicles, and at most 3,000,000 may set out", ("0", "3600", 'period="1e-9"')),
             ("is no time", ("0", "1e12", 'vehsPerHour="60"')),
             ("is no time", ("1e99999999", "5", 'vehsPerHour="60"')),
@@ -177,7 +177,7 @@ class Edges(SumoTest):
             self.assertIn(told, self.refused(routes=flow.format(*words)))
         for metres, speed in (("1e99999999", "10"), ("200", "1e400"), ("1e300", "1"), ("9" * 5000, "10")):
             self.assertIn(
-                "a number is wanted, of at most 10^15",
+                "expected a number, of at most 10^15",
                 self.refused(net=edge("a", "A", "B", metres=metres, speed=speed)),
             )
         self.assertIn(

@@ -156,7 +156,7 @@ class Refusals(TntpTest):
     def test_each_names_file_line_and_field(self) -> None:
         km = ("--length-unit", "km")
         self.assertIn("<NUMBER OF LINKS> says 76: the file is cut off", self.refused(more="<NUMBER OF LINKS> 76\n"))
-        self.assertIn('net.tntp line 7: capacity is "many": a number is wanted', self.refused(rows=("1 3 many 1 1",)))
+        self.assertIn('net.tntp line 7: capacity is "many": expected a number', self.refused(rows=("1 3 many 1 1",)))
         self.assertIn("trips.tntp line 5:", self.refused(*km, trips="2 : 100.0;\n"))
         self.assertIn('trips from 1 to 2 is "-3": it is 0 or more', self.refused(*km, trips="Origin 1\n2 : -3;\n"))
         status, _, err = self.make(*km, trips="Origin 1\n9 : 3;\n")
@@ -168,7 +168,7 @@ class Refusals(TntpTest):
     def test_a_file_of_another_kind(self) -> None:
         (self.folder / "x").write_text("a,b\n1,2\n")
         err = commands.run("from-tntp", *2 * [str(self.folder / "x")], str(self.folder / "case"))[2]
-        self.assertIn("x: no line <END OF METADATA>; a file of the Transportation Networks collection is wanted", err)
+        self.assertIn("x: no line <END OF METADATA>; expected a file of the Transportation Networks collection", err)
 
 
 if __name__ == "__main__":

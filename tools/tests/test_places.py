@@ -61,7 +61,7 @@ class Files(FolderTest):
             ("link,points\na,11 48;12 x\n", "two points or more"),
             ("link,points\na,11 48;12 nan\n", "two points or more"),
             ("link,points\na,11 48;12 1e999\n", "two points or more"),
-            ("link,points\na,\n", "it is wanted"),
+            ("link,points\na,\n", "expected a value"),
             (BENT + "a,11 48;12 49\n", "has a shape already"),
             ("link\na\n", "no field points"),
             ("", "the file is empty"),

@@ -203,14 +203,14 @@ class Tables(FolderTest):
             (HEAD + "a,1,4,2\na,6:59:59,7:00:02,1\n", "line 3: the count is not within the horizon"),
             (HEAD + "a,1,13,1\n", "line 2: the count is not within the horizon"),
             (HEAD + "a,1,4,-1\n", 'line 2: vehicles is "-1": a count is not below 0'),
-            (HEAD + "a,1,4,many\n", 'line 2: vehicles is "many": a number is wanted'),
+            (HEAD + "a,1,4,many\n", 'line 2: vehicles is "many": expected a number'),
             (HEAD + "a,1,4,3\na,1,4,2\n", "line 3: my.csv line 2 has a count of a in the same time"),
-            (HEAD + "a,7:61,4,3\n", 'line 2: from is "7:61": a clock time is wanted'),
+            (HEAD + "a,7:61,4,3\n", 'line 2: from is "7:61": expected a clock time'),
             (HEAD + "a,1,4,\n", "no count of a link of this case"),
             ("link,from,to\na,1,4\n", "no field vehicles or count"),
             ("link,from,to,vehicles,end\na,1,4,1,25\n", "line 2: a is 20 m long, and end is 25"),
-            ("link,from,to,vehicles,use\na,1,4,1,never\n", 'line 2: use is "never": fit or hold'),
-            ("link,from,to,vehicles,error\na,1,4,1,0\n", 'line 2: error is "0": an error above 0'),
+            ("link,from,to,vehicles,use\na,1,4,1,never\n", 'line 2: use is "never": expected fit or hold'),
+            ("link,from,to,vehicles,error\na,1,4,1,0\n", 'line 2: error is "0": expected an error above 0'),
             ("link,from,to,vehicles,place,use\na,1,4,1,x,\nb,1,4,1,x,hold\n", "place x are to have one use"),
         ):
             rows, err = self.counts(text)

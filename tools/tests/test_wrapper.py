@@ -165,7 +165,7 @@ class Proved(Clone):
                 text=True,
             )
         self.assertIn(
-            "ltm: line 1 of the script, edit 1: the member vehicles is 0, and a text with vehicles", done.stderr
+            "ltm: line 1 of the script, edit 1: the member vehicles is 0; expected a text with vehicles", done.stderr
         )
         self.assertIn('0 as the text "0"', done.stderr)
 
@@ -556,7 +556,7 @@ class Installing(Clone):
                 "ltm-tools install: . lies in the clone itself, which stays as it is: name a folder outside of it\n",
             ),
         )
-        self.assertIn("a folder is wanted", self.run_ltm("--install", "").stderr)
+        self.assertIn("expected a folder", self.run_ltm("--install", "").stderr)
         self.assertEqual(everything(self.top), before)
         # outside of the clone this folder is one like any other
         self.into.mkdir()

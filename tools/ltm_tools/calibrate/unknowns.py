@@ -109,9 +109,9 @@ class Errors:
         for row in read_table(path, ("effect", "error")):
             name, error = row.text("effect"), row.number("error")
             if name not in known:
-                raise row.fault("effect", f"{', '.join(known)} are wanted")
+                raise row.fault("effect", f"expected {', '.join(known)}")
             if not 0 <= error <= 10 or name in found:
-                raise row.fault("error", "a part of the demand is wanted, from 0 to 10, and each effect once")
+                raise row.fault("error", "expected a part of the demand, from 0 to 10, and each effect once")
             found[name] = float(error)
         made = cls(**found)
         if not any(getattr(made, name) for name in known if name != "capacity"):

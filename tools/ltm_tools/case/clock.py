@@ -18,7 +18,7 @@ def read_clock(folder: str | os.PathLike[str]) -> int | None:
     if not os.path.exists(path):
         return None
     if os.path.getsize(path) > MOST_BYTES:
-        raise Fault(f"{path}: one line is wanted, with a clock time, as 7:00")
+        raise Fault(f"{path}: expected one line, with a clock time, as 7:00")
     try:
         return clock_ms(read_text(path))
     except Fault as fault:

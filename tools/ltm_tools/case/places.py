@@ -124,6 +124,6 @@ def read_shapes(folder: str | os.PathLike[str]) -> dict[str, Line]:
         if name in shapes:
             raise row.fault("link", "this link has a shape already")
         if line is None:
-            raise row.fault("points", "two points or more are wanted, as x y;x y")
+            raise row.fault("points", "expected two points or more, as x y;x y")
         shapes[name] = line
     return shapes

@@ -118,9 +118,7 @@ def wanted(value: object, name: str, kind: str, is_kind: Callable[[object], bool
         near = f"; there {'is' if len(value) == 1 else 'are'} {', '.join(value)}" if value else ""
         raise NotThat(f"the member {name} was looked for, and is not there{near}")
     if not is_kind(value[name]):
-        raise NotThat(
-            f"the member {name} is {value_text(value[name])}, and {kind} is wanted{hint(value[name], is_kind)}"
-        )
+        raise NotThat(f"the member {name} is {value_text(value[name])}; expected {kind}{hint(value[name], is_kind)}")
     found: object = value[name]
     return found
 
@@ -223,7 +221,7 @@ def batch_edits(value: object) -> list[object]:
     edits = wanted(value, "edits", "an array of edits", is_array)
     assert isinstance(edits, list)
     if not 1 <= len(edits) <= MOST_EDITS:
-        raise NotThat(f"the member edits has {len(edits)} edits, and 1 to {MOST_EDITS} are wanted")
+        raise NotThat(f"the member edits has {len(edits)} edits; expected 1 to {MOST_EDITS}")
     return edits
 
 
@@ -242,7 +240,7 @@ def check_weights(value: object) -> None:
     weights = wanted(value, "weights", 'an object, as {"a": 1}', is_object)
     assert isinstance(weights, dict)
     if not 1 <= len(weights) <= MOST_WEIGHTS:
-        raise NotThat(f"the member weights has {len(weights)} members, and 1 to {MOST_WEIGHTS} are wanted")
+        raise NotThat(f"the member weights has {len(weights)} members; expected 1 to {MOST_WEIGHTS}")
     for name in weights:
         if not is_name(name):
             raise NotThat(f"the member weights has {value_text(name)}, which is no name ({NAME_RULE})")
@@ -258,7 +256,7 @@ def check_rows(value: object) -> None:
     for number, row in enumerate(rows, 1):
         if not isinstance(row, list) or len(row) != 2:
             raise NotThat(
-                f"row {number} of the member rows is {value_text(row)}, and a slot and weights are wanted, as [0,"
+                f"row {number} of the member rows is {value_text(row)}; expected a slot and weights, as [0,"
                 f' {{"a": 1}}]'
             )
         try:

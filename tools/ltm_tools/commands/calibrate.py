@@ -203,7 +203,7 @@ def asked(args: argparse.Namespace, case: Case, counts: list[Count]):  # type: i
     errors = Errors() if args.errors is None else Errors.read(args.errors)
     prior = Prior(case, slice_slots(Fraction(args.slice, MINUTE_MS), case))
     if not prior.unknowns:
-        raise Fault(f"{args.case}: no demand stands in this case, and a prior is wanted")
+        raise Fault(f"{args.case}: the case has no demand, and the search starts from one")
     return (
         prior,
         CalibrateOptions(args.iterations, args.directions, errors, args.processes, args.scheduler, args.capacities),
@@ -299,7 +299,7 @@ def ending(search: Search, spread: Spread | None, done: Sequence[Iteration], arg
     misfit = point.of_counts / len(search.target.errors)
     if misfit > 1:
         yield (
-            f"the mean square misfit is {misfit:.2f} of the counts' errors, and about 1 or less is wanted: look at the"
+            f"the mean square misfit is {misfit:.2f} of the counts' errors; expected about 1 or less: look at the"
             f" worst counts, at capacities and routes there, before you trust this demand"
         )
 

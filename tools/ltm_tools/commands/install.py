@@ -22,7 +22,7 @@ def add_arguments(parser: argparse.ArgumentParser) -> None:
 
 def run(args: argparse.Namespace) -> int:
     if not args.folder:
-        raise Fault("a folder is wanted, as ~/.local/bin")
+        raise Fault("expected a folder, as ~/.local/bin")
     why = why_not(CLONE)
     if why:
         raise Fault(f"{why}: ./ltm --prove first")

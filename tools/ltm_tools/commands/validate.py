@@ -81,7 +81,7 @@ def reader_of(args: argparse.Namespace, start: int, placing: Placing) -> CountsR
     span = None if args.span is None else Span(args.span[0] - start, args.span[1] - start)
     error = None if args.count_error is None else (args.count_error[0] / 100, args.count_error[1])
     if error is not None and not error[1]:
-        raise Fault("--count-error has 0 vehicles: a number above 0 is wanted, as a count may be 0")
+        raise Fault("--count-error has 0 vehicles: expected a number above 0, as a count may be 0")
     return CountsReading(start, placing.source, args.detectors, span, reading_of(args), error)
 
 

@@ -79,7 +79,7 @@ class CountsReading:
             try:
                 return clock_ms(text) - self.start
             except Fault:
-                raise row.fault(name, "a clock time is wanted, as 7:45, or seconds after slot 0") from None
+                raise row.fault(name, "expected a clock time, as 7:45, or seconds after slot 0") from None
         return milliseconds(exact_or_none(text), lambda rule: row.fault(name, rule))
 
     def plain(self, path: str) -> Iterator[CountRow]:
@@ -99,7 +99,7 @@ class CountsReading:
             name = row.text("place", f"{link} {end}" if end != ENTRY else link)
             error = None if not row.fields.get("error", "").strip() else row.number("error")
             if error is not None and error <= 0:
-                raise row.fault("error", "an error above 0 is wanted, in vehicles")
+                raise row.fault("error", "expected an error above 0, in vehicles")
             yield CountRow(row.place, name, link, end, span, vehicles_of(row, "vehicles"), error, use_of(row))
 
     def edge_data(self, path: Path) -> Iterator[CountRow]:
@@ -173,10 +173,10 @@ class CountsReading:
 def milliseconds(seconds: Fraction | None, fault: Callable[[str], Fault]) -> int:
     """Seconds in ms; a Fault where there are none, or too many, or a part of a ms."""
     if seconds is None or abs(seconds) > LONGEST_SECONDS:
-        raise fault("a clock time is wanted, as 7:45, or seconds after slot 0")
+        raise fault("expected a clock time, as 7:45, or seconds after slot 0")
     ms = seconds * 1000
     if ms.denominator != 1:
-        raise fault("a time of whole milliseconds is wanted")
+        raise fault("expected a time of whole milliseconds")
     return ms.numerator
 
 
@@ -194,7 +194,7 @@ def use_of(row: TableRow) -> str:
     """What a row is for: to be fitted, or to be held out."""
     use = row.text("use", FIT).lower()
     if use not in (FIT, HOLD):
-        raise row.fault("use", "fit or hold is wanted")
+        raise row.fault("use", "expected fit or hold")
     return use
 
 
@@ -205,7 +205,7 @@ def place_on_link(row: TableRow) -> str:
         return text
     metres = exact_or_none(text)
     if metres is None or metres < 0:
-        raise row.fault("end", "entry, exit, or metres from the entry are wanted")
+        raise row.fault("end", "expected entry, exit, or metres from the entry")
     return str(metres)
 
 
@@ -235,7 +235,7 @@ def detector_links(path: str, reading: Reading) -> dict[str, tuple[str, str]]:
         for row in Stream(path, ("detector", "link"), DETECTORS, reading):
             links[row.text("detector")] = row.text("link"), place_on_link(row)
     if not links:
-        raise Fault(f"{path}: no detector stands in it; detector,link or SUMO's file of detectors is wanted")
+        raise Fault(f"{path}: no detector stands in it; expected detector,link or SUMO's file of detectors")
     return links
 
 
@@ -270,7 +270,7 @@ def read_times(path: str, start: int, source: Source, reading: Reading = Reading
         if row.fields.get("error", "").strip():
             error = row.number("error")
         if seconds <= 0 or (error is not None and error <= 0):
-            raise row.fault("seconds" if seconds <= 0 else "error", "a number of seconds above 0 is wanted")
+            raise row.fault("seconds" if seconds <= 0 else "error", "expected a number of seconds above 0")
         name = row.text("place", " ".join(links))
         found.append(Timed(name, links, reader.moment(row, "departs"), seconds, error, use_of(row), row.place))
     return found

@@ -60,10 +60,10 @@ def read_fit(path: str | os.PathLike[str]) -> list[FitRow]:
         try:
             length = clock_ms(row.text("to")) - clock_ms(row.text("from"))
         except Fault:
-            raise row.fault("from", "clock times are wanted in from and to, as 7:45") from None
+            raise row.fault("from", "expected clock times in from and to, as 7:45") from None
         counted, loaded = row.number("counted"), row.number("loaded")
         if length <= 0 or counted < 0 or loaded < 0:
-            raise row.fault("from", "a span that ends after it begins is wanted, and vehicles that are not below 0")
+            raise row.fault("from", "expected a span that ends after it begins, and vehicles that are not below 0")
         links = tuple(row.text("links").split())
         found.append(FitRow(row.text("place"), links, counted, loaded, Fraction(length, HOUR_MS), row.text("use")))
     if not found:

@@ -19,7 +19,7 @@ def moment_ms(row: Row, field: str) -> int:
         return count * 1440 * MINUTE_MS + clock_ms(clock)
     seconds = row.number(field)
     if abs(seconds) > LONGEST_SECONDS:
-        raise row.fault(field, f"a clock time is wanted, or seconds, of at most {count_text(LONGEST_SECONDS)}")
+        raise row.fault(field, f"expected a clock time, or seconds, of at most {count_text(LONGEST_SECONDS)}")
     return int(seconds * 1000)
 
 

@@ -125,7 +125,7 @@ def file_of(folder: Path, name: str) -> Path:
 def instead(folder: Path) -> str:
     """What to do with a folder, or a file, that has no link.csv."""
     if not folder.is_dir():
-        return "a folder with link.csv and node.csv is wanted" + (
+        return "expected a folder with link.csv and node.csv" + (
             ", and this is a file" if folder.exists() else ", and there is none of this name"
         )
     near = sorted(found.name for found in folder.iterdir())
@@ -137,7 +137,7 @@ def instead(folder: Path) -> str:
             if links
             else f"unpack {packed}, and name the folder of its link.csv"
         )
-    return f"it has {', '.join(near[:8])}" if near else "a folder with link.csv and node.csv is wanted, and it is empty"
+    return f"it has {', '.join(near[:8])}" if near else "expected a folder with link.csv and node.csv, and it is empty"
 
 
 def read_config(folder: Path, made: Read) -> None:
@@ -254,7 +254,7 @@ def positive_number(row: Row, name: str, default: Fraction | None, what: str, ma
     found = fraction_or_none(row, name)
     if found is None:
         made.faults.append(
-            f"{what}: {name} is {text!r}, and a number above 0 is wanted"
+            f"{what}: {name} is {text!r}; expected a number above 0"
             + ("; left empty it is set by the link's kind" if default is not None else "")
         )
     return found
@@ -306,7 +306,7 @@ def both_ways(row: Row, road: Road, made: Read) -> list[Road]:
     """The way back of a link that is not directed."""
     text = row.text("directed", "0" if row.text("dir_flag", "1") == "0" else "1").lower()
     if text not in (*YES, *NO) and not fraction_zero(text):
-        made.faults.append(f"link {road.name}: directed is {text!r}; 1 or true, 0 or false is wanted")
+        made.faults.append(f"link {road.name}: directed is {text!r}; expected 1 or true, 0 or false")
     if text not in NO and not fraction_zero(text):
         return []
     name = road.name + "_r"

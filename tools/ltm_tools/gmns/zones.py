@@ -42,7 +42,7 @@ def place_zones(read: Read, zone_nodes: str) -> None:
             of = dict(list(of.items())[:1])
         whole = sum(of.values(), Fraction(0))
         if whole <= 0:
-            raise Fault(f"zone {zone}: the zone_share of its nodes sum to {whole}; a number above 0 is wanted")
+            raise Fault(f"zone {zone}: the zone_share of its nodes sum to {whole}; expected a number above 0")
         network.origins[zone] = network.destinations[zone] = {node: part / whole for node, part in of.items() if part}
     for node in nodes:
         network.origins.setdefault(node, {node: Fraction(1)})

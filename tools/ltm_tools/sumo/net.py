@@ -140,8 +140,8 @@ def whole_attribute(element: ElementTree.Element, name: str, default: int) -> in
     found = whole_of(text.strip().removeprefix("-"))
     if found is None:
         raise Fault(
-            f"{element.tag} {element.get('id') or element.get('from', '')}: {name} is {shown(text)}, and a"
-            f" whole number is wanted"
+            f"{element.tag} {element.get('id') or element.get('from', '')}: {name} is {shown(text)};"
+            f" expected a whole number"
         )
     return -found if text.strip().startswith("-") else found
 
@@ -207,7 +207,7 @@ def read_junction(net: SumoNet, element: ElementTree.Element) -> None:
 def check_roads(net: SumoNet, path: Path, vehicle_class: str) -> None:
     """A Fault where a net has no edge that these vehicles may use."""
     if not net.network.roads and not net.left_out:
-        raise Fault(f"{path}: no edges; a net of SUMO is wanted, as netconvert writes it")
+        raise Fault(f"{path}: no edges; expected a net of SUMO, as netconvert writes it")
     if not net.network.roads:
         raise Fault(f"{path}: no edge that a {vehicle_class} may use; --vehicle-class names another")
 
@@ -310,7 +310,7 @@ def check_letters(net: SumoNet, program: Program, path: Path) -> None:
         )
     if counts[0] < ways:
         raise Fault(
-            f"{what}: its phases have {counts[0]} letters, and the signal holds {ways} ways: one for each is wanted"
+            f"{what}: its phases have {counts[0]} letters, and the signal holds {ways} ways: expected one for each"
         )
 
 

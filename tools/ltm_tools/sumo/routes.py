@@ -370,6 +370,6 @@ def seconds_of(text: str, what: str) -> Fraction:
         if abs(seconds) <= LONGEST_SECONDS:
             return seconds
     raise Fault(
-        f"{what}: {shown(text)} is no time; seconds, or H:M:S, are wanted, of at most"
+        f"{what}: {shown(text)} is no time; expected seconds, or H:M:S, of at most"
         f" {count_text(LONGEST_SECONDS)} seconds"
     )

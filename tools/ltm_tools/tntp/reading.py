@@ -67,7 +67,7 @@ class Parts:
             return default
         number = whole_of(text.partition(".")[0])
         if number is None:
-            raise Fault(f"{self.path}: <{name}> is {shown(text)}, and a whole number is wanted")
+            raise Fault(f"{self.path}: <{name}> is {shown(text)}; expected a whole number")
         return number
 
 
@@ -88,7 +88,7 @@ def file_parts(path: Path) -> Parts:
             made.lines.append((number, text.strip()))
     if not over:
         raise Fault(
-            f"{path}: no line <{END}>; a file of the Transportation Networks collection is wanted, which begins with"
+            f"{path}: no line <{END}>; expected a file of the Transportation Networks collection, which begins with"
             f" lines as <NUMBER OF ZONES> 24"
         )
     return made
@@ -100,7 +100,7 @@ def read_net(path: Path) -> TntpNet:
     made = TntpNet(zones=parts.whole("NUMBER OF ZONES", 0), first_through=parts.whole("FIRST THRU NODE", 1))
     made.links = [link_of(f"{path} line {number}", text) for number, text in parts.lines]
     if not made.links:
-        raise Fault(f"{path}: no links; a network file is wanted first, then the trips")
+        raise Fault(f"{path}: no links; expected a network file first, then the trips")
     said = parts.whole("NUMBER OF LINKS", len(made.links))
     if said != len(made.links):
         raise Fault(
@@ -118,7 +118,7 @@ def link_of(place: str, text: str) -> TntpLink:
     """The link of a row."""
     fields = text.split(";")[0].split()
     if len(fields) < len(LINK_FIELDS):
-        raise Fault(f"{place}: {len(fields)} fields, and at least {', '.join(LINK_FIELDS)} are wanted")
+        raise Fault(f"{place}: {len(fields)} fields; expected at least {', '.join(LINK_FIELDS)}")
     capacity, length, time = (
         amount(fields[column], LINK_FIELDS[column], place) for column in range(2, len(LINK_FIELDS))
     )
@@ -155,12 +155,12 @@ def cells_of(parts: Parts) -> Iterator[tuple[str, str, Fraction]]:
         words = text.split()
         if words[0].lower() == "origin":
             if len(words) < 2:
-                raise Fault(f"{place}: {shown(text)}: an origin is wanted, as Origin 1")
+                raise Fault(f"{place}: {shown(text)}: expected an origin, as Origin 1")
             origin, text = words[1], " ".join(words[2:])
         for entry in filter(str.strip, text.split(";")):
             destination, colon, volume = map(str.strip, entry.partition(":"))
             if not origin or not colon or not destination:
-                raise Fault(f"{place}: {shown(entry.strip())}: a line Origin 1, then 2 : 100.0; is wanted")
+                raise Fault(f"{place}: {shown(entry.strip())}: expected a line Origin 1, then 2 : 100.0;")
             yield origin, destination, amount(volume, f"trips from {origin} to {destination}", place)
 
 
@@ -173,8 +173,8 @@ def read_places(path: Path) -> dict[str, tuple[float, float]]:
             continue
         numbers = [exact_or_none(text) for text in fields[1:3]]
         if len(numbers) < 2 or numbers[0] is None or numbers[1] is None:
-            raise Fault(f"{path} line {number}: {shown(line.strip())}: a node, x and y are wanted")
+            raise Fault(f"{path} line {number}: {shown(line.strip())}: expected a node, x and y")
         places[fields[0]] = float(numbers[0]), float(numbers[1])
     if not places:
-        raise Fault(f"{path}: no nodes; rows of a node, x and y are wanted")
+        raise Fault(f"{path}: no nodes; expected rows of a node, x and y")
     return places

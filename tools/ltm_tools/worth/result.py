@@ -97,12 +97,12 @@ def worth_row(row: Row) -> WorthRow:
     """A row as it is read."""
     kind = row.text("held_by")
     if kind not in KINDS:
-        raise row.fault("held_by", f"one of {', '.join(KINDS)} is wanted")
+        raise row.fault("held_by", f"expected one of {', '.join(KINDS)}")
     spent = None
     if row.text("more_travel_time_s", ""):
         exact = row.number("more_travel_time_s") * UNITS * 1000
         if exact.denominator != 1:
-            raise row.fault("more_travel_time_s", "vehicle seconds with six decimals at most are wanted")
+            raise row.fault("more_travel_time_s", "expected vehicle seconds with six decimals at most")
         spent = exact.numerator
     return WorthRow(row.text("link"), kind, row.number("more_per_h", 0), spent, row.whole("clear", 0) == 1)
 

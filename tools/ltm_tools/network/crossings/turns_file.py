@@ -144,7 +144,7 @@ def greens_in(row: Row, name: str) -> tuple[Green, ...]:
         if None in numbers or part is None:
             raise row.fault(
                 name,
-                "greens are wanted as 0-42 50-60*1/2, in seconds of the cycle, with the share of the"
+                "expected greens as 0-42 50-60*1/2, in seconds of the cycle, with the share of the"
                 " lanes that have them",
             )
         cycle, offset, *times = (
@@ -176,7 +176,7 @@ def permissive_of(row: Row) -> GapAcceptance | Fraction:
 
 
 GAP_RULE = (
-    "a share above 0 and at most 1 is wanted, or a critical gap and a follow-up time above 0 in seconds, and"
+    "expected a share above 0 and at most 1, or a critical gap and a follow-up time above 0 in seconds, and"
     " how many vehicles of a lane go when a green ends"
 )
 
