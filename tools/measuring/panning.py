@@ -56,7 +56,8 @@ def table_of(room: Room, cities: tuple[Made, ...]) -> Table:
             "links, slots",
             "first map",
             "base there",
-            "server and program",
+            "server",
+            "program",
             "panned",
             "longest",
             "panned, all in sight",
@@ -66,8 +67,8 @@ def table_of(room: Room, cities: tuple[Made, ...]) -> Table:
         ),
         remarks=[
             "The first map and the base, which all changes wait for, are in ms by the clock of the browser since the "
-            "page was asked for; what server and program took until then is in seconds of processor time. The others "
-            f"are frames per second, with the longest frame in ms: {LASTS // 1000} s of panning at four times the "
+            "page was asked for; server and program have the seconds of processor time that they took until then. The "
+            f"others are frames per second, with the longest frame in ms: {LASTS // 1000} s of panning at four times the "
             "size and with all of the network in sight, and of playing. Headless Chromium paints by the processor."
         ],
     )
@@ -98,8 +99,8 @@ def watched(case: Path, program: Path) -> list[float]:
         first = until(window, FIRST)
         until(window, READY)
         there = window.run("return performance.now()")
-        cost = sum(of_process(number) for number in (server.pid, *children(server.pid))) / 1000
-        return [float(first), float(there), cost, *moving(window)]
+        server_s, program_s = (sum(map(of_process, numbers)) / 1000 for numbers in ([server.pid], children(server.pid)))
+        return [float(first), float(there), server_s, program_s, *moving(window)]
     finally:
         window.close()
         server.send_signal(signal.SIGINT)

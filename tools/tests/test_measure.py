@@ -57,9 +57,9 @@ class Moving(FolderTest):
         made, room = Made("grid", 3, 3, 2, 60), Room(self.folder, BUILT, None, 1000.0)
         with mock.patch.dict("os.environ", {"LTM": str(BUILT)}), mock.patch.object(panning, "LASTS", 300):
             ((size, *cells),) = panning.table_of(room, (made,)).rows
-        first, there, cost, *moves = [float(cell.replace(",", "")) for cell in cells]
+        first, there, server, program, *moves = [float(cell.replace(",", "")) for cell in cells]
         self.assertEqual((size, len(moves)), ("24, 60", 6))
-        self.assertTrue(0 < first <= there and cost > 0, cells)
+        self.assertTrue(0 < first <= there and server > 0 and program >= 0, cells)
         for rate, longest in zip(moves[::2], moves[1::2]):
             self.assertGreaterEqual(longest * rate, 995)  # 1,000 / rate is what a frame takes in the mean
 
