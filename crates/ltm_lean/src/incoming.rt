@@ -1,14 +1,19 @@
 //! A link at the node where it ends.
-ghost use Rattle.std.specs.Prelude.{◌≡◌, ℕ, ◌+◌, ◌≤◌, List, length};
+ghost use Rattle.std.specs.Prelude.{◌≡◌, ℕ, ◌+◌, ◌-◌, ◌<◌, ◌≤◌, List, length, slice_index, OnOk};
 ghost use Rattle.ltm_curve.specs.Counts.{Counts, total};
 ghost use Rattle.ltm_loading.specs.Setting.{Setting};
 ghost use Rattle.ltm_loading.specs.Groups.{down_of};
+ghost use Rattle.ltm_loading.specs.Loading.{IsLoading};
+ghost use Rattle.ltm_setting.specs.Setting.{setting_of};
+ghost use Rattle.ltm_setting.specs.Places.{IsLink, IsSlot};
 ghost use Rattle.ltm_standing.specs.Standing.{width_of};
 ghost use Rattle.ltm_units.specs.Bounds.{most_destinations};
 
-use ltm_lean_link::leave_listed;
+use crate::tables::Tables;
+use ltm_lean_link::{leave_listed, send_listed, take_in_last};
+use ltm_scenario::Scenario;
 use ltm_standing::Standing;
-use ltm_units::LinkId;
+use ltm_units::{LinkId, NoMemory};
 
 /// A link at the node where it ends: what stands on it, the place of each of its destinations in the list of the node, and
 /// what left it in the last slot.
@@ -25,9 +30,51 @@ pub struct Incoming {
 }
 
 impl Incoming {
-    ghost use Rattle.ltm_standing.specs.Listed.{Stands};
-    ghost use Rattle.ltm_lean_link.specs.Moved.{IsMovedAt};
+    ghost use Rattle.ltm_standing.specs.Listed.{Ascends, Stands};
+    ghost use Rattle.ltm_used.specs.Lists.{list_of};
+    ghost use Rattle.ltm_lean_node.specs.Places.{ArePlaces, AreApart};
+    ghost use Rattle.ltm_lean_link.specs.Moved.{IsMovedAt, IsSent};
     ghost use Rattle.ltm_lean.specs.Ends.{SameIncoming};
+    ghost use Rattle.ltm_lean.specs.Nodes.{AreTables, IsFrozen};
+
+    /// Takes in what entered the link in the slot before, and writes what it sends in the slot, by place in the node's list.
+    pub(crate) fn send(
+        &mut self,
+        scenario: &Scenario,
+        tables: &Tables,
+        slot: u32,
+        into: &mut [u64],
+    ) -> Result<(), NoMemory>
+        requires link { IsLink scenario.now self.old.link.0 }
+        requires slot { IsSlot scenario.now slot }
+        requires tables { AreTables (setting_of scenario.now) tables.now }
+        requires wide { width_of self.old.standing ≡ length (list_of tables.now.links self.old.link.0) }
+        requires apart { AreApart self.old.places.items (length into.old) }
+        ensures same { SameIncoming self.old self.new }
+        ensures sends { OnOk result ((c : Counts) (us : List ℕ) → IsLoading (setting_of scenario.now) c → IsFrozen (setting_of scenario.now) c slot tables.now
+            → Stands c self.old.link.0 (list_of tables.now.links self.old.link.0) (slot - 1) slot self.old.standing
+            → Ascends 0 (setting_of scenario.now).destinations us
+            → ArePlaces (list_of tables.now.links self.old.link.0) us self.old.places.items → length us ≡ length into.old
+            → IsSent (setting_of scenario.now) c self.old.link.0 slot us into.new) }
+        ensures stands { OnOk result ((c : Counts) → IsLoading (setting_of scenario.now) c → IsFrozen (setting_of scenario.now) c slot tables.now
+            → Stands c self.old.link.0 (list_of tables.now.links self.old.link.0) (slot - 1) slot self.old.standing
+            → Stands c self.old.link.0 (list_of tables.now.links self.old.link.0) slot slot self.new.standing) }
+    {
+        let mail = &tables.mails[self.link.0 as usize];
+        take_in_last(&mut self.standing, slot, mail.came, &mail.numbers)?;
+        send_listed(
+            scenario,
+            &tables.entered,
+            &tables.left,
+            self.link,
+            slot,
+            &mut self.standing,
+            &self.places,
+            &mut self.room,
+            into,
+        );
+        Ok(())
+    }
 
     /// Takes away what left the link in the slot, from what left by place in the node's list.
     pub fn leave(&mut self, moved: &[u64])
