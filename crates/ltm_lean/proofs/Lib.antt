@@ -1,3 +1,4 @@
 pub mod Arms
 pub mod Putting
 pub mod Left
+pub mod Sent
