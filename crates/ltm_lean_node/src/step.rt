@@ -11,7 +11,7 @@ ghost use Rattle.ltm_units.specs.Sums.{sum_below};
 ghost use Rattle.ltm_lean_node.specs.Rows.{listed_shape, AreSent, AreTaken};
 
 use crate::row::{finish_row, shape_of};
-use ltm_node::{NodeInputs, NodeOutputs, write_moves};
+use ltm_node::{NodeInputs, NodeOutputs, same_shape, write_moves};
 use ltm_scenario::Scenario;
 use ltm_setting::is_setting;
 use ltm_thin::pairs_over_lists;
@@ -43,6 +43,7 @@ pub fn step_listed(
         ≤ arm_capacity (setting_of scenario.now) pair.node.0 pair.slot i }
     requires inputs { width (listed_shape (setting_of scenario.now) pair.node.0 (length list.now) own) ≤ inputs.old.room }
     requires outputs { counts_width (listed_shape (setting_of scenario.now) pair.node.0 (length list.now) own) ≤ outputs.old.room }
+    ensures shape { outputs.new.shape ≡ listed_shape (setting_of scenario.now) pair.node.0 (length list.now) own }
     ensures moves { (c : Counts) → IsNodeList (setting_of scenario.now) c pair.node.0 list.now
         → AreSent (setting_of scenario.now) c pair.node.0 pair.slot list.now row.old
         → AreTaken (setting_of scenario.now) c pair.node.0 pair.slot takes.now
@@ -52,6 +53,7 @@ pub fn step_listed(
 {
     is_setting(scenario);
     pairs_over_lists();
+    same_shape();
     let shape = shape_of(scenario, pair.node, list.len() as u32, own);
     finish_row(scenario, pair, shape, list, takes, row);
     inputs.copy_row(shape, row);

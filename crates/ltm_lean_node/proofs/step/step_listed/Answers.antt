@@ -37,3 +37,8 @@ returns-clause-moves c = λ counts listed sent taken.
     subst (λ (n : Inputs). ReadsListed s counts u c.args.pair.slot ds (uncounted n)) (sym is)
     (reads_made s counts u c.args.pair.slot ds c.args.takes.now c.args.row.now c.finish_row.new.row c.args.own c.args.inputs.now.room (omega (arith, c.finish_row.auto.row, c.requires.width)) finished c.requires.own sent taken) in
     c.pairs_over_lists.ensures s counts u c.args.pair.slot ds (uncounted c.copy_row.new.self) c.write_moves.new.outputs listed c.requires.slot reads c.write_moves.ensures.step
+
+pub returns-clause-shape : goal.returns-clause-shape
+returns-clause-shape c =
+    let shape : c.shape_of-shape.result ≡ listed_shape (setting_of c.args.scenario.now) c.args.pair.node.0 (length c.args.list.now) c.args.own = c.shape_of-shape.ensures.shape in
+    (c.same_shape.ensures (uncounted c.copy_row.new.self) c.write_moves.new.outputs c.write_moves.ensures.step).0 ∙ (ap (λ (n : Inputs). n.shape) c.copy_row.ensures ∙ shape)
