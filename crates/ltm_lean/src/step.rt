@@ -41,6 +41,7 @@ pub fn step_node(
     requires outputs { counts_width (listed_shape (setting_of scenario.now) node.now.node.0 (length (list_of tables.now.nodes node.now.node.0)) node.now.own) ≤ outputs.old.room }
     requires sent { (c : Counts) → IsLoading (setting_of scenario.now) c
         → AreSent (setting_of scenario.now) c node.now.node.0 slot (list_of tables.now.nodes node.now.node.0) row.old }
+    ensures shape { outputs.new.shape ≡ listed_shape (setting_of scenario.now) node.now.node.0 (length (list_of tables.now.nodes node.now.node.0)) node.now.own }
     ensures moves { (c : Counts) → IsLoading (setting_of scenario.now) c → IsFrozen (setting_of scenario.now) c slot tables.now
         → MovesInLoading (setting_of scenario.now) c node.now.node.0 slot (list_of tables.now.nodes node.now.node.0) outputs.new }
     ensures inputs { inputs.new.room ≡ inputs.old.room }

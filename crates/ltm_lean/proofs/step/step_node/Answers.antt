@@ -1,11 +1,11 @@
-use Rattle.std.proofs.Common.{ℕ, ◌≤◌, List, length, arith, sym, subst}
+use Rattle.std.proofs.Common.{ℕ, ◌≤◌, List, length, arith, sym, ap, subst, ◌∙◌}
 use Rattle.ltm_existence.specs.Existence.{HasLoading}
 use Rattle.ltm_setting.specs.Setting.{setting_of}
 use Rattle.ltm_standing.specs.Listed.{Ascends}
 use Rattle.ltm_standing.proofs.Thin.{ascends_before}
 use Rattle.ltm_thin.specs.NodeLists.{IsNodeList, MovesInLoading}
 use Rattle.ltm_thin.proofs.Thinning.{ascends_few}
-use Rattle.ltm_lean_node.specs.Rows.{AreSent}
+use Rattle.ltm_lean_node.specs.Rows.{listed_shape, AreSent}
 use Rattle.ltm_lean.proofs.Arms.{sent_within}
 use Rattle.ltm_lean.proofs.step.step_node.Goals as goal
 
@@ -37,3 +37,6 @@ returns-clause-moves c = λ counts load frozen.
     subst (λ (xs : List ℕ). MovesInLoading s counts u c.args.slot xs c.step_listed.new.outputs) c.on-list.ensures
     (c.step_listed.ensures.moves counts (subst (IsNodeList s counts u) (sym c.on-list.ensures) (c.requires.tables.node_listed counts u load c.requires.node.there))
     (subst (λ (xs : List ℕ). AreSent s counts u c.args.slot xs c.args.row.now) (sym c.on-list.ensures) (c.requires.sent counts load)) (c.put_takes.ensures.taken counts frozen))
+
+pub returns-clause-shape : goal.returns-clause-shape
+returns-clause-shape c = c.step_listed.ensures.shape ∙ ap (λ (xs : List ℕ). listed_shape (setting_of c.args.scenario.now) c.args.node.now.node.0 (length xs) c.args.node.now.own) c.on-list.ensures
