@@ -1,9 +1,9 @@
-//! - **What it is**: a node in a slot of a loading without history: what the links into it send, what its out-links can take,
-//!   what moves there of the destinations of its list, and what leaves the links into it and its origin and enters the links
-//!   out of it. The numbers are those of the one loading.
+//! - **What it is**: a node in a slot of a loading without history: what the links into it and its origin send, what its
+//!   out-links can take, what moves there of the destinations of its list, and what leaves the links into it and its origin and
+//!   enters the links out of it. The numbers are those of the one loading.
 //! - **On what it stands**: `ltm_lean_node` for the node step over a list, `ltm_lean_link` for a link's half of a slot,
-//!   `ltm_totals` for what a link can take, `ltm_used` for lists of destinations, and `ltm_existence`, since what the arms send
-//!   is within their capacities in the one loading alone.
+//!   `ltm_origin` for what an origin sends, `ltm_totals` for what a link can take, `ltm_used` for lists of destinations, and
+//!   `ltm_existence`, since what the arms send is within their capacities in the one loading alone.
 //! - **What a call costs**: one pass over the destinations of each link, and the node step. `Mail::none` takes memory, and so
 //!   does what a link takes in.
 //! - **When to change it here**: where what is kept of a node from slot to slot is to be kept in another way.
@@ -17,6 +17,7 @@ mod node;
 mod origin;
 mod outgoing;
 mod own;
+mod slot;
 mod step;
 mod tables;
 mod takes;
