@@ -68,8 +68,8 @@ def table_of(room: Room, cities: tuple[Made, ...]) -> Table:
         remarks=[
             "The first map and the base, which all changes wait for, are in ms by the clock of the browser since the "
             "page was asked for; server and program have the seconds of processor time that they took until then. The "
-            f"others are frames per second, with the longest frame in ms: {LASTS // 1000} s of panning at four times the "
-            "size and with all of the network in sight, and of playing. Headless Chromium paints by the processor."
+            f"others are frames per second, with the longest frame in ms: {LASTS // 1000} s of panning at four times "
+            "the size and with all of the network in sight, and of playing. Headless Chromium paints by the processor."
         ],
     )
     for number, made in enumerate(cities):

@@ -25,6 +25,7 @@ REASONS = {
 LAWS = {"ARCHITECTURE.md", "CLAIMS.md", "CRATES.md", "DECISIONS.md", "MEASURED.md", "READING.md", "REPAIR.md"}
 """Pages about the proof, whose blocks are code and drawings, and the page that tools/measure writes."""
 NEEDS = {
+    "examples/assign/README.md": ("python3-numpy",),
     "docs/ASSIGN.md": ("python3-numpy", "python3-matplotlib"),
     "docs/CALIBRATE.md": ("python3-numpy", "python3-matplotlib"),
     "docs/COUNTS.md": ("python3-matplotlib",),

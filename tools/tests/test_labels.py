@@ -1,4 +1,6 @@
 """Times still to go in numbers of 32 bits, worked by hand."""
+from __future__ import annotations
+
 import unittest
 
 from support import FolderTest, needs_numpy
