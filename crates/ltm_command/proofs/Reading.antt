@@ -11,7 +11,7 @@ use Rattle.ltm_try_command.specs.Words.{start_of, nodes_of, if_at_least}
 use Rattle.ltm_command.specs.declared.words.Command.{Command}
 use Rattle.ltm_command.specs.declared.words.Command.TheVariants as command
 use Rattle.ltm_command.specs.declared.words.Report.TheVariants as report
-use Rattle.ltm_command.specs.Words.{Asks, IsSized, OneReading, number_of, workers_of, viewers_of, editors_of, when, trial_of, one_word, two_words, command_of}
+use Rattle.ltm_command.specs.Words.{Asks, IsSized, OneReading, number_of, workers_of, viewers_of, editors_of, every_of, totals_of, when, trial_of, one_word, two_words, command_of}
 
 -- ---- the words of each command are read as it
 asks_trial : (words : List (List ℕ)) (start nodes : ℕ) → Asks words (command.Try start nodes) → command_of words ≡ Some (command.Try start nodes)
@@ -22,6 +22,7 @@ pub asked : (words : List (List ℕ)) (c : Command) → Asks words c → command
 asked words (command.Report report.Load) is = ap command_of is
 asked words (command.Report report.Delay) is = ap command_of is
 asked words (command.Report report.Gap) is = ap command_of is
+asked words (command.Report (report.Totals n)) (number, is, some) = ap command_of is ∙ ap (λ (o : Option ℕ). option_map totals_of o) some
 asked words command.Curves is = ap command_of is
 asked words command.Check is = ap command_of is
 asked words (command.Routes lines.Splits) is = ap command_of is
@@ -95,15 +96,19 @@ pair word second c is =
     let editors = when word (codes "editors") (option_map command.Editors (editors_of second)) None in
     let views = when word (codes "view") (option_map command.View (viewers_of second)) editors in
     let sessions = when word (codes "session") (option_map command.Session (workers_of second)) views in
-    elim (when_some word (codes "routes") (when second (codes "times") (Some (command.Routes lines.Times)) None) sessions c is) [
+    let totals = when word (codes "totals") (option_map totals_of (every_of second)) sessions in
+    elim (when_some word (codes "routes") (when second (codes "times") (Some (command.Routes lines.Times)) None) totals c is) [
       | inl (same, this) ↦ times_read word second c same this
-      | inr rest ↦ elim (when_some word (codes "session") (option_map command.Session (workers_of second)) views c rest) [
-        | inl (same, this) ↦ let h = numbered command.Session workers_of (codes "session") word second c same this in subst (Asks (word ∷ second ∷ [])) h.1 h.2
-        | inr more ↦ elim (when_some word (codes "view") (option_map command.View (viewers_of second)) editors c more) [
-          | inl (same, this) ↦ let h = numbered command.View viewers_of (codes "view") word second c same this in subst (Asks (word ∷ second ∷ [])) h.1 h.2
-          | inr last ↦ elim (when_some word (codes "editors") (option_map command.Editors (editors_of second)) None c last) [
-            | inl (same, this) ↦ let h = numbered command.Editors editors_of (codes "editors") word second c same this in subst (Asks (word ∷ second ∷ [])) h.1 h.2
-            | inr none ↦ absurd (nothing c none)
+      | inr first ↦ elim (when_some word (codes "totals") (option_map totals_of (every_of second)) sessions c first) [
+        | inl (same, this) ↦ let h = numbered totals_of every_of (codes "totals") word second c same this in subst (Asks (word ∷ second ∷ [])) h.1 h.2
+        | inr rest ↦ elim (when_some word (codes "session") (option_map command.Session (workers_of second)) views c rest) [
+          | inl (same, this) ↦ let h = numbered command.Session workers_of (codes "session") word second c same this in subst (Asks (word ∷ second ∷ [])) h.1 h.2
+          | inr more ↦ elim (when_some word (codes "view") (option_map command.View (viewers_of second)) editors c more) [
+            | inl (same, this) ↦ let h = numbered command.View viewers_of (codes "view") word second c same this in subst (Asks (word ∷ second ∷ [])) h.1 h.2
+            | inr last ↦ elim (when_some word (codes "editors") (option_map command.Editors (editors_of second)) None c last) [
+              | inl (same, this) ↦ let h = numbered command.Editors editors_of (codes "editors") word second c same this in subst (Asks (word ∷ second ∷ [])) h.1 h.2
+              | inr none ↦ absurd (nothing c none)
+            ]
           ]
         ]
       ]
@@ -160,6 +165,7 @@ number_within digits least most word n is = within least most (number_told digit
 
 asked_sized : (words : List (List ℕ)) (c : Command) → Asks words c → IsSized c
 asked_sized words (command.Try start nodes) (a, b, is, starts, has) = number_within 3 4 400 b nodes has
+asked_sized words (command.Report (report.Totals n)) (number, is, some) = number_within 5 1 10000 number n some
 asked_sized words (command.Session n) (number, is, some) = (number_within 2 0 64 number n some).1
 asked_sized words (command.View n) (number, is, some) = number_within 1 1 2 number n some
 asked_sized words (command.Editors n) (number, is, some) = number_within 1 1 8 number n some

@@ -23,6 +23,7 @@ use Rattle.ltm_check_command.specs.Checks.{AnswersCheck, is_check_file, check_as
 use Rattle.ltm_report.specs.Reports.{IsReport}
 use Rattle.ltm_report.specs.DelayReports.{IsDelayReport}
 use Rattle.ltm_report.specs.GapReports.{IsGapReport}
+use Rattle.ltm_report.specs.Sampled.{IsSampledReport}
 
 -- a text, or the refusal in place of it
 abbrev pub Answer : Type 0
@@ -42,6 +43,7 @@ abbrev pub Reports : Report → ScenarioData → List ℕ → Type 0
 Reports report.Load = IsReport
 Reports report.Delay = IsDelayReport
 Reports report.Gap = IsGapReport
+Reports (report.Totals every) = IsSampledReport every
 
 -- what is answered to a case by a report of it
 abbrev pub CaseAnswer : (ScenarioData → List ℕ → Type 0) → Result ScenarioData CaseFault → Answer → Type 0

@@ -1,6 +1,7 @@
--- What the words of the command line ask for: one of eleven commands, or nothing.
+-- What the words of the command line ask for: one of twelve commands, or nothing.
 use Rattle.std.specs.Prelude.{ℕ, ◌≡◌, ◌↔◌, ◌≤◌, if◌then◌else◌, List, [], ◌∷◌, Option, None, Some, option_map, codes}
 use Rattle.std.specs.Str.{bytes_eq}
+use Rattle.ltm_units.specs.Bounds.{most_slots}
 use Rattle.ltm_units.specs.Numbers.{number_told}
 use Rattle.ltm_routes_command.specs.declared.lines.RouteLines.TheVariants as lines
 use Rattle.ltm_try_command.specs.Words.{start_of, nodes_of, if_at_least}
@@ -22,11 +23,16 @@ viewers_of = number_of 1 1 2
 abbrev pub editors_of : List ℕ → Option ℕ
 editors_of = number_of 1 1 8
 
+-- totals are told every 1 to as many slots as there can be
+abbrev pub every_of : List ℕ → Option ℕ
+every_of = number_of 5 1 most_slots
+
 -- the words ask for the command
 abbrev pub Asks : List (List ℕ) → Command → Type 0
 Asks words (command.Report report.Load) = words ≡ codes "load" ∷ []
 Asks words (command.Report report.Delay) = words ≡ codes "delay" ∷ []
 Asks words (command.Report report.Gap) = words ≡ codes "gap" ∷ []
+Asks words (command.Report (report.Totals every)) = (number : List ℕ) × (words ≡ codes "totals" ∷ number ∷ []) × (every_of number ≡ Some every)
 Asks words command.Curves = words ≡ codes "curves" ∷ []
 Asks words command.Check = words ≡ codes "check" ∷ []
 Asks words (command.Routes lines.Splits) = words ≡ codes "routes" ∷ []
@@ -39,6 +45,7 @@ Asks words (command.Editors editors) = (number : List ℕ) × (words ≡ codes "
 -- the numbers of a command are in their range
 abbrev pub IsSized : Command → Type 0
 IsSized (command.Try start nodes) = (4 ≤ nodes) × (nodes ≤ 400)
+IsSized (command.Report (report.Totals every)) = (1 ≤ every) × (every ≤ most_slots)
 IsSized (command.Session workers) = workers ≤ 64
 IsSized (command.View viewers) = (1 ≤ viewers) × (viewers ≤ 2)
 IsSized (command.Editors editors) = (1 ≤ editors) × (editors ≤ 8)
@@ -58,12 +65,16 @@ one_word word =
     (when word (codes "check") (Some command.Check)
     (when word (codes "routes") (Some (command.Routes lines.Splits)) None)))))
 
+abbrev pub totals_of : ℕ → Command
+totals_of every = command.Report (report.Totals every)
+
 abbrev pub two_words : List ℕ → List ℕ → Option Command
 two_words word second =
     when word (codes "routes") (when second (codes "times") (Some (command.Routes lines.Times)) None)
+    (when word (codes "totals") (option_map totals_of (every_of second))
     (when word (codes "session") (option_map command.Session (workers_of second))
     (when word (codes "view") (option_map command.View (viewers_of second))
-    (when word (codes "editors") (option_map command.Editors (editors_of second)) None)))
+    (when word (codes "editors") (option_map command.Editors (editors_of second)) None))))
 
 abbrev pub trial_of : Option ℕ → Option ℕ → Option Command
 trial_of (Some start) (Some nodes) = Some (command.Try start nodes)
@@ -84,4 +95,4 @@ OneReading = (words : List (List ℕ)) (c : Command) → (command_of words ≡ S
 
 -- all commands
 unfoldable pub usage_line : List ℕ
-usage_line = codes "usage: ltm load | ltm delay | ltm gap | ltm session N | ltm try START NODES | ltm routes [times] | ltm curves | ltm check | ltm view V | ltm editors K\n"
+usage_line = codes "usage: ltm load | ltm delay | ltm gap | ltm totals N | ltm session N | ltm try START NODES | ltm routes [times] | ltm curves | ltm check | ltm view V | ltm editors K\n"

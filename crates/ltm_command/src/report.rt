@@ -5,6 +5,7 @@ ghost use Rattle.ltm_casefile.specs.declared.faults.File.{File};
 ghost use Rattle.ltm_casefile.specs.declared.faults.CaseFault.{CaseFault};
 ghost use Rattle.ltm_casefile.specs.Case.{is_case_file, asks_for};
 ghost use Rattle.ltm_command.specs.declared.words.Command.{Command};
+ghost use Rattle.ltm_command.specs.Words.{IsSized};
 ghost use Rattle.ltm_command.specs.Answers.{Answers, AnswersFault};
 ghost use Rattle.ltm_command.specs.Program.{FileFailed};
 ghost use Rattle.ltm_check_command.specs.declared.refusal.Refusal.{Refusal};
@@ -12,7 +13,7 @@ ghost use Rattle.ltm_check_command.specs.declared.refusal.Refusal.{Refusal};
 use crate::words::{Command, Report};
 use ltm_casefile::{CaseFault, read_case};
 use ltm_io::Folder;
-use ltm_report::{delay_report_of, gap_report_of, report_of};
+use ltm_report::{delay_report_of, gap_report_of, report_of, sampled_report_of};
 use std::alloc::Global;
 use std::thread::Threads;
 
@@ -24,6 +25,7 @@ pub fn report_case<R: Threads + Sync, F: Folder>(
     report: Report,
     folder: &mut F,
 ) -> Result<Vec<u8>, CaseFault>
+    requires { IsSized (Command.Report report) }
     ensures keeps { F.told folder.new ≡ F.told folder.old }
     ensures others { (d : Doc) → is_case_file d ≡ false
         → F.faults folder.new d ≡ F.faults folder.old d }
@@ -39,8 +41,9 @@ pub fn report_case<R: Threads + Sync, F: Folder>(
 {
     let scenario = read_case(alloc, folder)?;
     match report {
-        Report::Load => Ok(report_of(alloc, &scenario)?),
-        Report::Delay => Ok(delay_report_of(alloc, &scenario)?),
+        Report::Load => Ok(report_of(rt, alloc, &scenario)?),
+        Report::Delay => Ok(delay_report_of(rt, alloc, &scenario)?),
         Report::Gap => Ok(gap_report_of(rt, alloc, &scenario)?),
+        Report::Totals { every } => Ok(sampled_report_of(rt, alloc, every, &scenario)?),
     }
 }

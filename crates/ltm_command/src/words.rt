@@ -19,6 +19,8 @@ pub enum Report {
     Delay,
     /// What those who travel spend, against the least that they could have: in all, and by destination.
     Gap,
+    /// What has passed each link and left each origin by every boundary of so many slots, and by the last.
+    Totals { every: u32 },
 }
 
 /// All that the program can be asked for.
@@ -73,6 +75,13 @@ fn editors(word: &str) -> Option<Command>
     Some(Command::Editors { editors })
 }
 
+fn totals(word: &str) -> Option<Command>
+    ensures { result ≡ option_map says.totals_of (says.every_of word.now) }
+{
+    let every = number_of(word, 5, 1, 10_000)?;
+    Some(Command::Report(Report::Totals { every }))
+}
+
 fn trial(start: &str, nodes: &str) -> Option<Command>
     ensures { result ≡ says.trial_of (start_of start.now) (nodes_of nodes.now) }
 {
@@ -120,6 +129,9 @@ fn two_words(first: &str, second: &str) -> Option<Command>
     if first == "routes" {
         return routes(second);
     }
+    if first == "totals" {
+        return totals(second);
+    }
     if first == "session" {
         return session(second);
     }
@@ -165,5 +177,5 @@ pub fn one_reading()
 pub fn usage_text() -> &'static [u8]
     ensures { result.now ≡ usage_line }
 {
-    b"usage: ltm load | ltm delay | ltm gap | ltm session N | ltm try START NODES | ltm routes [times] | ltm curves | ltm check | ltm view V | ltm editors K\n"
+    b"usage: ltm load | ltm delay | ltm gap | ltm totals N | ltm session N | ltm try START NODES | ltm routes [times] | ltm curves | ltm check | ltm view V | ltm editors K\n"
 }

@@ -51,6 +51,8 @@ fn zero_totals(alloc: Global, many: usize) -> Result<Vec<u64>, NoMemory>
 fn empty(alloc: Global, narrow: u32, slots: u32) -> Result<TotalCurves, NoMemory>
     ensures narrow { IfOk result (λ t. t.narrow ≡ narrow) }
     ensures slots { IfOk result (λ t. t.slots ≡ slots) }
+    ensures none { IfOk result (λ t. (k : ℕ) → slice_index t.totals.items k ≡ 0) }
+    ensures none_last { IfOk result (λ t. (k : ℕ) → slice_index t.last.items k ≡ 0) }
 {
     let totals = zero_counts(alloc, table_size(narrow, slots))?;
     let last = zero_totals(alloc, slots as usize + 1)?;
@@ -64,7 +66,7 @@ fn empty(alloc: Global, narrow: u32, slots: u32) -> Result<TotalCurves, NoMemory
 }
 
 impl TotalCurves {
-    ghost use Rattle.ltm_curve.specs.TotalCurves.{total_groups, total_slots, total_at, IsTotal, SetsTotal, AreNarrow, AreTotalsOf};
+    ghost use Rattle.ltm_curve.specs.TotalCurves.{total_groups, total_slots, total_at, HasTotals, IsTotal, SetsTotal, AreNarrow, AreTotalsOf};
 
     /// The totals of curves, of which there is some group. But for the last group each is less than 2^32.
     pub fn of(alloc: Global, curves: &Curves) -> Result<TotalCurves, NoMemory>
@@ -75,6 +77,16 @@ impl TotalCurves {
         let mut totals = empty(alloc, curves.groups() - 1, curves.slots())?;
         totals.copy_all(curves);
         Ok(totals)
+    }
+
+    /// So many groups and slots, of which there is some group; each total is 0.
+    #[tactic(auto, unfolding(crate::specs::TotalCurves::total_at))]
+    pub fn zeros(alloc: Global, groups: u32, slots: u32) -> Result<TotalCurves, NoMemory>
+        requires some_group { 1 ≤ groups }
+        ensures shape { IfOk result (λ t. HasTotals t groups slots) }
+        ensures zeros { IfOk result (λ t. (g k : ℕ) → total_at t g k ≡ 0) }
+    {
+        empty(alloc, groups - 1, slots)
     }
 
     /// How many slots there are; there is one boundary more.
@@ -111,8 +123,8 @@ impl TotalCurves {
         }
     }
 
-    /// Changes a total, and no other.
-    fn set(&mut self, group: u32, boundary: u32, total: u64)
+    /// Changes a total, and no other. But for the last group each is less than 2^32.
+    pub fn set(&mut self, group: u32, boundary: u32, total: u64)
         requires place { IsTotal self.old group boundary }
         requires small { total ≤ most_total }
         requires narrow { group < self.old.narrow → total < 2 ^ 32 }

@@ -3,6 +3,7 @@ pub mod Writing
 pub mod Steps
 pub mod Progress
 pub mod Showing
+pub mod Arriving
 pub mod Places
 pub mod Producing
 pub mod Renewing

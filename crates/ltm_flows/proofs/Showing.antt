@@ -7,7 +7,7 @@ use Rattle.ltm_curve.specs.Counts.{Counts, total}
 use Rattle.ltm_curve.specs.declared.curves.Curves.{Curves}
 use Rattle.ltm_curve.specs.declared.total_curves.TotalCurves.{TotalCurves}
 use Rattle.ltm_curve.specs.Table.{groups_of, destinations_of, slots_of, counts_of, total_of}
-use Rattle.ltm_curve.specs.TotalCurves.{total_groups, total_slots, total_at, AreNarrow, AreTotalsOf}
+use Rattle.ltm_curve.specs.TotalCurves.{total_groups, total_slots, total_at, HasTotals, AreNarrow, AreTotalsOf}
 use Rattle.ltm_curve.proofs.Lasts.{total_rises}
 use Rattle.ltm_loading.specs.Setting.{Setting, IsSetting}
 use Rattle.ltm_loading.specs.Groups.{up_of, down_of, dep_of, arr_of, groups}
@@ -71,6 +71,16 @@ all_rise s c t law v shape h are g k x z =
     total_rises (destinations_of c) (counts_of c g) (slots_of c)
     (λ d i y w. law s (counts_of c) v h g d i (omega (arith, g_in, shape.same_groups)) (omega (arith, y, shape.same_destinations)) (omega (arith, w, shape.same_slots))) k k_in in
     omega (arith, rise, are.totals g k g_in (omega arith), are.totals g (k + 1) g_in (omega arith))
+
+-- and none of the totals of a loading does, wherever they stand
+pub totals_rise : (s : Setting) (c : Counts) (t : TotalCurves) → NeverFall → IsSetting s → IsLoading s c → HasTotals t (groups s) s.slots → HaveTotals s c (total_at t) →
+    (g k : ℕ) → g < total_groups t → k < total_slots t → total_at t g k ≤ total_at t g (k + 1)
+totals_rise s c t law v h shape are g k x z =
+    let g_in : g < groups s = omega (arith, x, shape.same_groups) in
+    let k_in : k < s.slots = omega (arith, z, shape.same_slots) in
+    let rise : total s.destinations (c g) k ≤ total s.destinations (c g) (k + 1) =
+    total_rises s.destinations (c g) s.slots (λ d i y w. law s c v h g d i g_in y w) k k_in in
+    omega (arith, rise, are g k g_in (omega (arith, k_in)), are g (k + 1) g_in (omega (arith, k_in)))
 
 -- a total of a group at the last boundary
 at_last : (s : Setting) (v : ℕ) (c : Counts) (l : Loading) → ShowsCounts s v c l → (g : ℕ) → g < groups s → total_at (curves_of l) g (last_of l) ≡ total s.destinations (c g) s.slots

@@ -1,6 +1,7 @@
 pub mod Applying
 pub mod Working
 pub mod Amounts
+pub mod Arrivals
 pub mod Origins
 pub mod Production
 pub mod Shown

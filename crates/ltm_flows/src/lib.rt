@@ -10,6 +10,7 @@
 #![tactic(auto)]
 
 mod applying;
+mod arrivals;
 mod cold_loading;
 mod last_totals;
 mod loading;

@@ -3,16 +3,18 @@ ghost use Rattle.std.specs.Prelude.{◌≡◌, ◌≤◌, ◌<◌, ◌+◌, ◌*
 ghost use Rattle.ltm_curve.specs.Cells.{HasCells};
 ghost use Rattle.ltm_curve.specs.Counts.{Counts};
 ghost use Rattle.ltm_curve.specs.Table.{counts_of};
-ghost use Rattle.ltm_curve.specs.TotalCurves.{total_groups, total_slots, total_at};
+ghost use Rattle.ltm_curve.specs.TotalCurves.{total_groups, total_slots, total_at, HasTotals};
 ghost use Rattle.ltm_loading.specs.Setting.{Setting, IsSetting};
 ghost use Rattle.ltm_loading.specs.Groups.{groups};
 ghost use Rattle.ltm_loading.specs.Loading.{IsLoading};
+ghost use Rattle.ltm_flows.specs.Arrivals.{AreMovedTotals};
 ghost use Rattle.ltm_setting.specs.Setting.{setting_of};
 ghost use Rattle.ltm_setting.specs.Places.{IsShapedFor, all_groups};
 ghost use Rattle.ltm_units.specs.Bounds.{longest_step, most_links, most_nodes, most_slots};
 
 mod reading;
 
+use crate::arrivals::write_arrivals;
 use crate::production::Production;
 use crate::tables::{free_times, production, write_free_times};
 use ltm_curve::{Changed, Curves, TotalCurves};
@@ -73,6 +75,7 @@ impl Loading {
       free_of,
       loading_room,
       ShowsCounts,
+      Shows,
       Fits,
       AgreesOutside,
       HasProduction,
@@ -99,6 +102,36 @@ impl Loading {
         let free = free_times(alloc, scenario)?;
         let production = production(alloc, scenario)?;
         let curves = TotalCurves::of(alloc, curves)?;
+        Ok(Loading {
+            version,
+            step: step(scenario),
+            links: link_count(scenario),
+            nodes: node_count(scenario),
+            free,
+            production,
+            curves,
+        })
+    }
+
+    /// The loading of a scenario, from the totals of its links and origins by boundary. What has arrived is what has left the
+    /// origins and is on no link: the last group is written here.
+    pub fn of_totals(
+        alloc: Global,
+        scenario: &Scenario,
+        curves: TotalCurves,
+        version: u64,
+    ) -> Result<Loading, NoMemory>
+        requires shape { HasTotals curves (all_groups scenario.now)
+            (setting_of scenario.now).slots }
+        requires moved { AreMovedTotals (setting_of scenario.now) (total_at curves) }
+        ensures { IfOk result (Shows (setting_of scenario.now) version) }
+    {
+        never_fall();
+        is_setting(scenario);
+        let mut curves = curves;
+        write_arrivals(scenario, &mut curves);
+        let free = free_times(alloc, scenario)?;
+        let production = production(alloc, scenario)?;
         Ok(Loading {
             version,
             step: step(scenario),

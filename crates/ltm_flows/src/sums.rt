@@ -56,7 +56,7 @@ impl GroupTotals for TotalCurves {
 }
 
 /// What is on so many links at a boundary.
-fn on_links<T: GroupTotals>(totals: &T, links: u32, boundary: u32) -> u64
+pub(crate) fn on_links<T: GroupTotals>(totals: &T, links: u32, boundary: u32) -> u64
     requires few { links ≤ most_links }
     requires groups { 2 * links ≤ T.groups totals.now }
     requires boundary { boundary ≤ T.last totals.now }
@@ -73,7 +73,7 @@ fn on_links<T: GroupTotals>(totals: &T, links: u32, boundary: u32) -> u64
 }
 
 /// What has left the origins of so many nodes by a boundary.
-fn departed<T: GroupTotals>(totals: &T, links: u32, nodes: u32, boundary: u32) -> u64
+pub(crate) fn departed<T: GroupTotals>(totals: &T, links: u32, nodes: u32, boundary: u32) -> u64
     requires few { links ≤ most_links }
     requires few_nodes { nodes ≤ most_nodes }
     requires groups { 2 * links + nodes ≤ T.groups totals.now }

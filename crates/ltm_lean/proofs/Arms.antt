@@ -25,7 +25,7 @@ use Rattle.ltm_lean_node.specs.Rows.{AreSent}
 use Rattle.ltm_lean_link.specs.Moved.{IsMoved}
 
 -- nothing is sent of a destination that is not listed
-others_unsent : (s : Setting) (c : Counts) (u t : ℕ) (us : List ℕ) → IsNodeList s c u us → t < s.slots → (i d : ℕ) → i < arms_of s u → d < s.destinations → NotIn us d → sending s c u t i d ≡ 0
+pub others_unsent : (s : Setting) (c : Counts) (u t : ℕ) (us : List ℕ) → IsNodeList s c u us → t < s.slots → (i d : ℕ) → i < arms_of s u → d < s.destinations → NotIn us d → sending s c u t i d ≡ 0
 others_unsent s c u t us h l i d a m out =
     let front : IsFront s c t = earlier_front s c s.slots t h.loading.front (omega (arith, l)) in
     elim (cases_lt i (s.ins u)) [

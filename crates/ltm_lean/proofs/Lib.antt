@@ -1,4 +1,9 @@
 pub mod Arms
-pub mod Putting
+pub mod Departing
 pub mod Left
+pub mod Passed
+pub mod Putting
+pub mod Rested
 pub mod Sent
+pub mod Still
+pub mod Widths

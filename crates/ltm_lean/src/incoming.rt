@@ -77,7 +77,7 @@ impl Incoming {
     }
 
     /// Takes away what left the link in the slot, from what left by place in the node's list.
-    pub fn leave(&mut self, moved: &[u64])
+    pub(crate) fn leave(&mut self, moved: &[u64])
         ensures same { SameIncoming self.old self.new }
         ensures gone { (s : Setting) (c : Counts) (l t : ℕ) (ds us : List ℕ) → IsMovedAt s c l (down_of l) t ds us self.old.places.items moved.now
             → total s.destinations (c (down_of l)) (t + 1) ≡ total s.destinations (c (down_of l)) t + self.new.gone }
@@ -85,5 +85,14 @@ impl Incoming {
             → Stands c l ds k t self.old.standing → Stands c l ds k (t + 1) self.new.standing }
     {
         self.gone = leave_listed(&mut self.standing, &self.places, moved, &mut self.room);
+    }
+
+    /// Says that nothing left the link in a slot.
+    pub(crate) fn rest(&mut self)
+        ensures same { SameIncoming self.old self.new }
+        ensures gone { self.new.gone ≡ 0 }
+        ensures stands { self.new.standing ≡ self.old.standing }
+    {
+        self.gone = 0;
     }
 }

@@ -15,7 +15,7 @@ use crate::outgoing::Outgoing;
 use ltm_node::NodeOutputs;
 
 /// Takes away what left each link into a node in a slot, from what moved there.
-pub fn leave_links(ins: &mut [Incoming], outputs: &NodeOutputs)
+pub(crate) fn leave_links(ins: &mut [Incoming], outputs: &NodeOutputs)
     requires arms { length ins.old ≤ outputs.now.shape.arms }
     requires few { length ins.old ≤ 4 }
     ensures links { (s : Setting) (x : Tables) (u : ℕ) → AreIncoming s x u ins.old → AreIncoming s x u ins.new }
@@ -31,7 +31,7 @@ pub fn leave_links(ins: &mut [Incoming], outputs: &NodeOutputs)
 }
 
 /// Writes what entered each link out of a node in a slot, from what moved there.
-pub fn enter_links(outs: &mut [Outgoing], outputs: &NodeOutputs)
+pub(crate) fn enter_links(outs: &mut [Outgoing], outputs: &NodeOutputs)
     requires outs { length outs.old ≤ outputs.now.shape.outs }
     requires few { length outs.old ≤ 4 }
     ensures links { (s : Setting) (x : Tables) (u : ℕ) → AreOutgoing s x u outs.old → AreOutgoing s x u outs.new }

@@ -33,7 +33,7 @@ impl Mail {
     }
 
     /// Takes what entered in a slot, from what entered by place in the list of the node where the link begins.
-    pub fn write(&mut self, places: &[u32], moved: &[u64])
+    pub(crate) fn write(&mut self, places: &[u32], moved: &[u64])
         requires same { length places.now ≡ mail_width self.old }
         requires few { length places.now ≤ most_destinations }
         ensures wide { mail_width self.new ≡ mail_width self.old }
@@ -41,5 +41,16 @@ impl Mail {
             → HasEntered s c l ds t self.new.came self.new.numbers.items }
     {
         self.came = enter_listed(places, moved, &mut self.numbers);
+    }
+
+    /// Takes it that nothing entered.
+    pub(crate) fn clear(&mut self)
+        ensures wide { mail_width self.new ≡ mail_width self.old }
+        ensures none { self.new.came ≡ 0 }
+    {
+        if self.came > 0 {
+            self.numbers.fill(0);
+            self.came = 0;
+        }
     }
 }

@@ -4,7 +4,7 @@ ghost use Rattle.ltm_units.specs.Sums.{sum_below};
 
 /// Adds to what has left an origin, by place, what left it in a slot, up to the most that 32 bits hold, and tells what left it
 /// in all, up to the most that 64 bits hold.
-pub fn add_gone(gone: &mut [u32], moved: &[u64]) -> u64
+pub(crate) fn add_gone(gone: &mut [u32], moved: &[u64]) -> u64
     requires { length moved.now ≡ length gone.old }
     ensures each { (k : ℕ) → k < length gone.old → slice_index gone.new k ≡ min (2 ^ 32 - 1) (slice_index gone.old k + slice_index moved.now k) }
     ensures all { result ≡ min (2 ^ 64 - 1) (sum_below (length gone.old) (slice_index moved.now)) }

@@ -7,6 +7,7 @@ ghost use Rattle.ltm_units.specs.Bounds.{most_destinations};
 
 use crate::mail::Mail;
 use ltm_units::LinkId;
+use std::mem;
 
 /// A link at the node where it begins: the place of each of its destinations in the list of the node, and what entered it in
 /// the last slot.
@@ -22,14 +23,31 @@ pub struct Outgoing {
 impl Outgoing {
     ghost use Rattle.ltm_standing.specs.Listed.{HasEntered};
     ghost use Rattle.ltm_lean_link.specs.Moved.{IsMovedAt};
-    ghost use Rattle.ltm_lean.specs.Ends.{SameOutgoing};
+    ghost use Rattle.ltm_lean.specs.Ends.{mail_width, SameOutgoing};
 
     /// Writes what entered the link in a slot, from what entered by place in the node's list.
-    pub fn enter(&mut self, moved: &[u64])
+    pub(crate) fn enter(&mut self, moved: &[u64])
         ensures same { SameOutgoing self.old self.new }
         ensures entered { (s : Setting) (c : Counts) (l t : ℕ) (ds us : List ℕ) → IsMovedAt s c l (up_of l) t ds us self.old.places.items moved.now
             → HasEntered s c l ds t self.new.mail.came self.new.mail.numbers.items }
     {
         self.mail.write(&self.places, moved);
+    }
+
+    /// Says that nothing entered the link in a slot.
+    pub(crate) fn rest(&mut self)
+        ensures same { SameOutgoing self.old self.new }
+        ensures came { self.new.mail.came ≡ 0 }
+    {
+        self.mail.clear();
+    }
+
+    /// Hands over what entered the link, for another mail as wide.
+    pub fn trade(&mut self, mail: &mut Mail)
+        requires { mail_width mail.old ≡ mail_width self.old.mail }
+        ensures given { mail.new ≡ self.old.mail }
+        ensures same { SameOutgoing self.old self.new }
+    {
+        mem::swap(&mut self.mail, mail);
     }
 }

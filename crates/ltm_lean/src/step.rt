@@ -22,7 +22,7 @@ use ltm_units::Pair;
 
 /// Writes what moves at a node in a slot of the destinations of its list, from a row that begins with what its arms send.
 /// `takes` is room for what its out-links can take.
-pub fn step_node(
+pub(crate) fn step_node(
     scenario: &Scenario,
     tables: &Tables,
     node: &LeanNode,

@@ -14,7 +14,7 @@ use ltm_setting::is_setting;
 use ltm_totals::can_take;
 
 /// Writes what each link out of a node can take in a slot.
-pub fn put_takes(
+pub(crate) fn put_takes(
     scenario: &Scenario,
     tables: &Tables,
     node: u32,

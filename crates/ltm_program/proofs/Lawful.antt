@@ -88,6 +88,7 @@ texts_say_holds = record {
   load = λ b a r. let h = r.whole tt in let l = texts.reported report.Load b.told h.0 h.1 in (l.0, h.0, l.1, l.2, h.2);
   delay = λ b a r. let h = r.whole tt in let l = texts.reported report.Delay b.told h.0 h.1 in (l.0, h.0, l.1, l.2, h.2);
   gap = λ b a r. let h = r.whole tt in let l = texts.reported report.Gap b.told h.0 h.1 in (l.0, h.0, l.1, l.2, h.2);
+  totals = λ b a every r. let h = r.whole tt in let l = texts.reported (report.Totals every) b.told h.0 h.1 in (l.0, h.0, l.1, l.2, h.2);
   curves = λ b a r. let h = r.whole tt in let l = texts.curves_loaded b.told h.0 h.1 in (l.0, h.0, l.1, l.2, h.2);
   check = λ b a r. let h = r.whole tt in let l = texts.checked_yes b.told h.0 h.1 in (l.0, l.1, l.2, l.3, wrote_as b a h.0 _ h.2 l.4);
   check_complete = λ b a status files s bytes r told has few tells calm quiet. texts.says_yes files s bytes status has few tells (completes command.Check b a status files tt r told calm quiet);

@@ -16,6 +16,7 @@ use Rattle.ltm_report.specs.CaseFaults.{bad_case_line}
 use Rattle.ltm_report.specs.Reports.{IsReport}
 use Rattle.ltm_report.specs.DelayReports.{IsDelayReport}
 use Rattle.ltm_report.specs.GapReports.{IsGapReport}
+use Rattle.ltm_report.specs.Sampled.{IsSampledReport}
 use Rattle.ltm_command.specs.File.{IsSplitsFile, IsTimesFile}
 use Rattle.ltm_command.specs.Trial.{IsTrial}
 use Rattle.ltm_check.specs.Left.{records_of}
@@ -77,6 +78,8 @@ pub record TextsSay : Type 0 where
       → (s : ScenarioData) × (t : List ℕ) × Describes b.told (Ok s) × IsDelayReport s t × Wrote t b a
   pub gap : (b a : Outside) → Ran (Some (command.Report report.Gap)) ending.Ok b a
       → (s : ScenarioData) × (t : List ℕ) × Describes b.told (Ok s) × IsGapReport s t × Wrote t b a
+  pub totals : (b a : Outside) (every : ℕ) → Ran (Some (command.Report (report.Totals every))) ending.Ok b a
+      → (s : ScenarioData) × (t : List ℕ) × Describes b.told (Ok s) × IsSampledReport every s t × Wrote t b a
   pub curves : (b a : Outside) → Ran (Some command.Curves) ending.Ok b a
       → (s : ScenarioData) × (t : List ℕ) × Describes b.told (Ok s) × IsLoadingText s t × Wrote t b a
   -- a check says yes only where the curve file tells the loading of the case, and wherever it does

@@ -62,11 +62,12 @@ fn do_alone<R: Threads + Sync, F: OpenFolder, S: Source, W: Sink>(
 }
 
 /// Does what the words ask for, over this folder, this input and this output, where no thread has to be started for it: words
-/// that ask for workers, viewers or editors are refused by the usage line, as those that ask for nothing. Only `gap` starts
-/// threads here, for a large case; each works alone, and where none can be started the answer is the same.
+/// that ask for workers, viewers or editors are refused by the usage line, as those that ask for nothing. Only `load`, `delay`,
+/// `totals` and `gap` start threads here, for a large case; each works alone, and where none can be started the answer is the same.
 ///
 /// - `load` fetches the files of the case in order and reads them, loads the network (Yperman 2007) and
 ///   writes the totals line and a line for each link.
+/// - `delay`, `gap` and `totals N` report of the same loading what is lost, against which least, and what has passed by when.
 /// - `session 0` fetches and reads the case likewise, and answers the script of edits and questions on the input line by
 ///   line; each answer is written whole before the next line is read.
 /// - `try START NODES` makes a case of the two numbers, loads it, repairs what its batch changes, and writes four lines; it

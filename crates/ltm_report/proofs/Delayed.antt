@@ -70,10 +70,10 @@ origin_shown l node name v boundary o old new is are wrote s version c shows =
     cc
 
 -- an origin that produces nothing has no line
-pick_none : (n : ℕ) (x : List ℕ) → n ≡ 0 → cond (nat_eq n 0) [] x ≡ []
+pub pick_none : (n : ℕ) (x : List ℕ) → n ≡ 0 → cond (nat_eq n 0) [] x ≡ []
 pick_none n x h = grind (arith, nat_tests)
 
-pick_some : (n : ℕ) (x : List ℕ) → n ≢ 0 → cond (nat_eq n 0) [] x ≡ x
+pub pick_some : (n : ℕ) (x : List ℕ) → n ≢ 0 → cond (nat_eq n 0) [] x ≡ x
 pick_some n x h = grind (arith, nat_tests)
 
 pub no_line : (name : List ℕ) (node : ℕ) (s : Setting) (c : Counts) → produced_in_all s node s.slots ≡ 0 → node_delay_report name node s c ≡ []

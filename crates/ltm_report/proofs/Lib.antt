@@ -2,4 +2,5 @@ pub mod Reported
 pub mod Delayed
 pub mod Rowed
 mod RowsTell
+mod Telling
 mod Gapped

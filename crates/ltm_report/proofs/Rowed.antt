@@ -20,13 +20,13 @@ use Rattle.ltm_report.specs.Rows.{row, state_line, curve_line, departures_line, 
 use Rattle.ltm_report.specs.RowReports.{state_report, curve_report, departures_report, link_delays, node_delays, delays_report}
 
 -- one piece behind another
-behind : (old x y t u : List ℕ) → x ≡ old ++ t → y ≡ x ++ u → y ≡ old ++ (t ++ u)
+pub behind : (old x y t u : List ℕ) → x ≡ old ++ t → y ≡ x ++ u → y ≡ old ++ (t ++ u)
 behind old x y t u one more = more ∙ (ap (λ (z : List ℕ). z ++ u) one ∙ append_assoc old t u)
 
 version_shown : (l : Loading) (v version : ℕ) (old new : List ℕ) → v ≡ version_of l → version_of l ≡ version → new ≡ old ++ version_piece v → new ≡ old ++ version_piece version
 version_shown l v version old new is same wrote = wrote ∙ ap (λ (n : ℕ). old ++ version_piece n) (is ∙ same)
 
-as_many : (n m k : ℕ) (words old new : List ℕ) (f : ℕ → ℕ) → n ≡ m → m ≡ k → new ≡ old ++ row words n f → new ≡ old ++ row words k f
+pub as_many : (n m k : ℕ) (words old new : List ℕ) (f : ℕ → ℕ) → n ≡ m → m ≡ k → new ≡ old ++ row words n f → new ≡ old ++ row words k f
 as_many n m k words old new f is same wrote = wrote ∙ ap (λ (i : ℕ). old ++ row words i f) (is ∙ same)
 
 -- two rows, one behind another

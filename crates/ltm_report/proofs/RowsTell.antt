@@ -1,6 +1,9 @@
 -- What lines of all links, nodes or boundaries tell is what the lines of each alone tell.
 use Rattle.std.proofs.Common.{ℕ, zero, suc, ◌≡◌, ◌+◌, ◌-◌, ◌*◌, ◌<◌, ◌≤◌, ◌++◌, List, [], nat_lt, refl, ap, ◌∙◌, codes, arith, if◌then◌else◌}
-use Rattle.std.proofs.Math.Nat.{zero-mul}
+use Rattle.std.specs.Prelude.{◌/◌, ◌%◌, min}
+use Rattle.std.proofs.Math.Nat.{zero-mul, min-le_right, min-eq_right}
+use Rattle.std.proofs.lemmas.Nat.{div-add-mod', mod_below}
+use Rattle.ltm_report.specs.Sampled.{passed_report, departed_report}
 use Rattle.std.specs.Fmt.{digits}
 use Rattle.ltm_units.specs.Sums.{sum_below}
 use Rattle.ltm_units.specs.Texts.{number_piece, amount_piece, vehicles_text}
@@ -18,8 +21,9 @@ use Rattle.ltm_report.specs.Delays.{node_delay_line, seconds_piece, seconds_text
 use Rattle.ltm_report.specs.DelayReports.{delay_report, link_delay_report, queue_report, node_delay_report, origin_report}
 use Rattle.ltm_report.specs.Rows.{peak_numbers, node_numbers}
 use Rattle.ltm_report.specs.RowReports.{state_report, curve_report, departures_report, delays_report}
-use Rattle.ltm_report.specs.RowLaws.{StateTellsQueues, CurvesTellQueues, DeparturesTellOrigins, DelaysTellDelay}
+use Rattle.ltm_report.specs.RowLaws.{StateTellsQueues, CurvesTellQueues, DeparturesTellOrigins, TotalsTellCurves, TotalsTellDepartures, LastIsTold, DelaysTellDelay}
 use Rattle.ltm_report.proofs.Delayed.{no_line, some_line}
+use Rattle.ltm_report.proofs.Telling.{not_departed, some_departed}
 
 pub state_tells_queues_holds : StateTellsQueues
 unfolding state_report queue_report origin_report
@@ -53,6 +57,40 @@ departures_tell_origins_holds s c node = record {
   waiting = waiting_at s c node;
   departures = λ version name. refl;
   origin = λ version name boundary. refl;
+}
+
+pub totals_tell_curves_holds : TotalsTellCurves
+unfolding curve_report passed_report
+totals_tell_curves_holds s c every link = record {
+  entered = entered_link s c link;
+  gone = left_link s c link;
+  curve = λ version name. refl;
+  totals = λ name. refl;
+  within = λ place. min-le_right ((place + 1) * every) s.slots;
+}
+
+-- the last multiple that is told is past the end, or the end itself
+past_end : (every slots : ℕ) → 0 < every → slots ≤ ((slots - 1) / every + 1) * every
+past_end every slots some =
+    let n = slots - 1 in
+    let parts : n / every * every + n % every ≡ n = div-add-mod' n every in
+    let small : n % every < every = mod_below n every some in
+    let more : (n / every + 1) * every ≡ n / every * every + every = omega (arith) in
+    omega (parts, small, more, arith)
+
+pub last_is_told_holds : LastIsTold
+last_is_told_holds every slots some =
+    let place : (slots - 1) / every + 1 - 1 + 1 ≡ (slots - 1) / every + 1 = omega (arith) in
+    ap (λ (n : ℕ). min (n * every) slots) place ∙ min-eq_right (past_end every slots some)
+
+pub totals_tell_departures_holds : TotalsTellDepartures
+unfolding departures_report
+totals_tell_departures_holds s c every node = record {
+  produced = produced_in_all s node;
+  departed = departed_from s c node;
+  departures = λ version name. refl;
+  totals = λ name some. some_departed every name node s c (λ none. omega (arith, some, none));
+  idle = λ name none. not_departed every name node s c none;
 }
 
 -- ---- a node that produces nothing

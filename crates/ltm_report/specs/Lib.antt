@@ -6,6 +6,7 @@ pub mod Delays
 pub mod DelayReports
 pub mod Rows
 pub mod RowReports
+pub mod Sampled
 pub mod RowLaws
 pub mod Causes
 pub mod CaseFaults

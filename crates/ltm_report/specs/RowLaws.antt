@@ -1,11 +1,12 @@
 -- What the lines of all links, nodes or boundaries tell is what the lines of each of them alone tell.
-use Rattle.std.specs.Prelude.{ℕ, ◌≡◌, ◌<◌, ◌+◌, List, [], codes}
+use Rattle.std.specs.Prelude.{ℕ, ◌≡◌, ◌<◌, ◌≤◌, ◌+◌, ◌-◌, List, [], codes}
 use Rattle.ltm_curve.specs.Counts.{Counts}
 use Rattle.ltm_loading.specs.Setting.{Setting, IsSetting}
 use Rattle.ltm_flows.specs.Origins.{produced_in_all}
 use Rattle.ltm_report.specs.Delays.{delay_line, link_delay_line, queue_line, node_delay_line, origin_line}
 use Rattle.ltm_report.specs.DelayReports.{delay_report, link_delay_report, queue_report, node_delay_report, origin_report}
 use Rattle.ltm_report.specs.Rows.{state_line, curve_line, departures_line, link_numbers, node_numbers, delays_line}
+use Rattle.ltm_report.specs.Sampled.{told_boundaries, told_at, passed_line, departed_line, passed_report, departed_report}
 use Rattle.ltm_report.specs.RowReports.{state_report, curve_report, departures_report, delays_report}
 
 -- at a link's place in `state` stand the numbers of its `queue` at the boundary, and at a node's place that of its `origin`
@@ -49,6 +50,35 @@ pub record DeparturesOf (s : Setting) (c : Counts) (node : ℕ) : Type 0 where
 
 abbrev pub DeparturesTellOrigins : Type 0
 DeparturesTellOrigins = (s : Setting) (c : Counts) (node : ℕ) → DeparturesOf s c node
+
+-- `totals` has at each boundary that it tells what `curve` has there of the link
+pub record TotalsOf (s : Setting) (c : Counts) (every link : ℕ) : Type 0 where
+  pub entered : ℕ → ℕ
+  pub gone : ℕ → ℕ
+  pub curve : (version : ℕ) (name : List ℕ) → curve_report version name link s c ≡ curve_line version name (s.slots + 1) entered gone
+  pub totals : (name : List ℕ) → passed_report every name link s c ≡ passed_line name (told_boundaries every s.slots)
+      (λ place. entered (told_at every s.slots place)) (λ place. gone (told_at every s.slots place))
+  pub within : (place : ℕ) → told_at every s.slots place ≤ s.slots
+
+abbrev pub TotalsTellCurves : Type 0
+TotalsTellCurves = (s : Setting) (c : Counts) (every link : ℕ) → TotalsOf s c every link
+
+-- and of an origin what `departures` has there; one that produces nothing has no line
+pub record TotalsFrom (s : Setting) (c : Counts) (every node : ℕ) : Type 0 where
+  pub produced : ℕ → ℕ
+  pub departed : ℕ → ℕ
+  pub departures : (version : ℕ) (name : List ℕ) →
+      departures_report version name node s c ≡ departures_line version name (s.slots + 1) produced departed
+  pub totals : (name : List ℕ) → 0 < produced s.slots → departed_report every name node s c ≡ departed_line name (told_boundaries every s.slots)
+      (λ place. departed (told_at every s.slots place))
+  pub idle : (name : List ℕ) → produced s.slots ≡ 0 → departed_report every name node s c ≡ []
+
+abbrev pub TotalsTellDepartures : Type 0
+TotalsTellDepartures = (s : Setting) (c : Counts) (every node : ℕ) → TotalsFrom s c every node
+
+-- the last boundary is told, and of the others the multiples of so many slots
+abbrev pub LastIsTold : Type 0
+LastIsTold = (every slots : ℕ) → 0 < every → told_at every slots (told_boundaries every slots - 1) ≡ slots
 
 -- `delays` has the numbers of `delay`, at a link's place those of its line in the report of a case, and at a node's place
 -- those of its line there; of a node that has no line there all are 0

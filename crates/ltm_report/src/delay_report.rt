@@ -10,15 +10,25 @@ ghost use Rattle.ltm_report.specs.DelayReports.{link_delay_of, node_delay_of, Is
 use crate::delays::{delay_text, link_delay_text};
 use crate::origins::node_delay_text;
 use ltm_flows::{Loading, cold};
+use ltm_lean_load::is_better_lean;
+use ltm_lean_threads::load_on_processors;
 use ltm_scenario::Scenario;
 use ltm_times::{LinkDelay, link_delays};
 use ltm_units::{LinkId, NoMemory, NodeId};
 use std::alloc::Global;
+use std::thread::Threads;
 
-/// The loading of a scenario, under version 0.
-fn load(alloc: Global, scenario: &Scenario) -> Result<Loading, NoMemory>
+/// The loading of a scenario, under version 0. With many destinations it is made of what stands on the links.
+pub(crate) fn load<R: Threads + Sync>(
+    rt: &R,
+    alloc: Global,
+    scenario: &Scenario,
+) -> Result<Loading, NoMemory>
     ensures { IfOk result (Shows (setting_of scenario.now) 0) }
 {
+    if is_better_lean(scenario) {
+        return load_on_processors(rt, alloc, scenario, 0);
+    }
     let curves = cold(alloc, scenario)?;
     Loading::create(alloc, scenario, &curves, 0)
 }
@@ -93,11 +103,15 @@ fn push_nodes(
 
 /// Loads a scenario, and gives what all spend, queue and wait, the line of each link in order of number, and that of each
 /// node whose origin produces anything.
-pub fn delay_report_of(alloc: Global, scenario: &Scenario) -> Result<Vec<u8>, NoMemory>
+pub fn delay_report_of<R: Threads + Sync>(
+    rt: &R,
+    alloc: Global,
+    scenario: &Scenario,
+) -> Result<Vec<u8>, NoMemory>
     ensures { IfOk result (λ text. IsDelayReport scenario.now text.items) }
 {
     let _setup = scenario.setup();
-    let loading = load(alloc, scenario)?;
+    let loading = load(rt, alloc, scenario)?;
     let mut text = Vec::new(alloc);
     delay_text(alloc, &loading, &mut text)?;
     push_links(alloc, scenario, &loading, &mut text)?;

@@ -20,6 +20,7 @@ mod gap_report;
 mod gaps;
 mod links;
 mod load;
+mod loaded;
 mod made;
 mod origins;
 mod pieces;
@@ -27,6 +28,8 @@ mod refusals;
 mod routes;
 mod row_laws;
 mod rows;
+mod sampled;
+mod sampled_report;
 mod times;
 mod totals;
 
@@ -46,8 +49,10 @@ pub use origins::{node_delay_text, origin_text};
 pub use refusals::{bad_slots_text, long_script_text, too_many_text, unknown_name_text};
 pub use routes::{route_row_text, route_time_text, splits_header_text};
 pub use row_laws::{
-    curves_tell_queues, delays_tell_delay, departures_tell_origins, state_tells_queues,
+    curves_tell_queues, delays_tell_delay, departures_tell_origins, last_is_told,
+    state_tells_queues, totals_tell_curves, totals_tell_departures,
 };
 pub use rows::{curve_text, departures_text, state_text};
+pub use sampled_report::sampled_report_of;
 pub use times::time_text;
 pub use totals::{totals_line_text, totals_text};

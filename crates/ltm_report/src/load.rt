@@ -7,14 +7,18 @@ ghost use Rattle.ltm_report.specs.Reports.{totals_report, link_report_of, IsRepo
 ghost use Rattle.ltm_setting.specs.Places.{IsShapedFor};
 
 use crate::links::load_link_line_text;
+use crate::loaded::report_of_loading;
 use crate::totals::totals_line_text;
 use ltm_curve::Curves;
 use ltm_flows::{cold, totals_at_end};
+use ltm_lean_load::is_better_lean;
+use ltm_lean_threads::load_on_processors;
 use ltm_loading::{down_of, up_of};
 use ltm_scenario::Scenario;
 use ltm_setting::link_count;
 use ltm_units::{LinkId, NoMemory, Units};
 use std::alloc::Global;
+use std::thread::Threads;
 
 fn push_totals(
     alloc: Global,
@@ -68,10 +72,10 @@ fn push_links(
     Ok(())
 }
 
-/// Loads a scenario, and gives the totals line of its loading and the line of each link, in order of number. The totals by
-/// boundary, of which it tells the last alone, are not kept.
+/// The report of a loading whose counts are kept while it is made. The totals by boundary, of which it tells the last alone, are
+/// not kept.
 #[tactic(auto, unfolding(crate::specs::Reports::load_report))]
-pub fn report_of(alloc: Global, scenario: &Scenario) -> Result<Vec<u8>, NoMemory>
+fn report_of_curves(alloc: Global, scenario: &Scenario) -> Result<Vec<u8>, NoMemory>
     ensures { IfOk result (λ text. IsReport scenario.now text.items) }
 {
     let _setup = scenario.setup();
@@ -80,4 +84,21 @@ pub fn report_of(alloc: Global, scenario: &Scenario) -> Result<Vec<u8>, NoMemory
     push_totals(alloc, scenario, &curves, &mut text)?;
     push_links(alloc, scenario, &curves, &mut text)?;
     Ok(text)
+}
+
+/// Loads a scenario, and gives the totals line of its loading and the line of each link, in order of number. With many
+/// destinations it is made of what stands on the links, and that of a large case in threads; the report is the same however many
+/// there are.
+pub fn report_of<R: Threads + Sync>(
+    rt: &R,
+    alloc: Global,
+    scenario: &Scenario,
+) -> Result<Vec<u8>, NoMemory>
+    ensures { IfOk result (λ text. IsReport scenario.now text.items) }
+{
+    if is_better_lean(scenario) {
+        let loading = load_on_processors(rt, alloc, scenario, 0)?;
+        return report_of_loading(alloc, scenario, &loading);
+    }
+    report_of_curves(alloc, scenario)
 }

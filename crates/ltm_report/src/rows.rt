@@ -25,7 +25,7 @@ fn push_count(into: &mut Vec<u8>, count: Units) -> Result<(), NoMemory>
 }
 
 /// Appends words, and an amount for each place below a number.
-fn push_row<F: Fn(u32) -> Units>(
+pub(crate) fn push_row<F: Fn(u32) -> Units>(
     into: &mut Vec<u8>,
     words: &[u8],
     many: u32,

@@ -4,6 +4,7 @@ use ltm_io::MemFolder;
 use ltm_report::delay_report_of;
 use ltm_units::NoMemory;
 use std::alloc::Global;
+use std::thread::Threads;
 
 /// Seven vehicles set out over two links of 20 m, of which the second lets through two fifths of the first.
 fn spillback(alloc: Global) -> Result<MemFolder, NoMemory> {
@@ -18,14 +19,14 @@ fn spillback(alloc: Global) -> Result<MemFolder, NoMemory> {
 }
 
 /// Whether a case has this report.
-fn is_report(alloc: Global, want: &str) -> bool {
+fn is_report<R: Threads + Sync>(rt: &R, alloc: Global, want: &str) -> bool {
     let Ok(mut folder) = spillback(alloc) else {
         return false;
     };
     let Ok(scenario) = read_case(alloc, &mut folder) else {
         return false;
     };
-    match delay_report_of(alloc, &scenario) {
+    match delay_report_of(rt, alloc, &scenario) {
         Ok(text) => text.as_slice() == want.as_bytes(),
         Err(_) => false,
     }
@@ -38,5 +39,5 @@ fn spillback_is_told_link_by_link(rt: HostRuntime) {
         link a spent 30.500000 queued 20.700000 most 1.800 at 8\n\
         link b spent 5.400000 queued 0.000000 most 0.000 at 0\n\
         node n1 waited 29.000000 most 3.200 at 10\n";
-    assert!(rt; is_report(rt.alloc(), want));
+    assert!(rt; is_report(&rt, rt.alloc(), want));
 }

@@ -36,7 +36,7 @@ fn add_destination(rt: &impl Abort, scenario: &mut Scenario, node: u32) {
 }
 
 // Units that start at the first node in slot 0.
-fn add_demand(rt: &impl Abort, scenario: &mut Scenario, destination: u32) {
+pub(crate) fn add_demand(rt: &impl Abort, scenario: &mut Scenario, destination: u32) {
     let origin = NodeId(0);
     assert!(rt; origin.0 < scenario.network().nodes());
     assert!(rt; !scenario.network().out_links(origin).is_empty());
@@ -72,7 +72,7 @@ fn add_split(
 }
 
 // From A by a to B, from there by b to C or by c to D, and from D by d to C. C and D are destinations.
-fn fork(rt: &impl Abort, alloc: Global) -> Scenario {
+pub(crate) fn fork(rt: &impl Abort, alloc: Global) -> Scenario {
     let setup = Setup::of(Millis(1000), 3, Units(500));
     let Ok(mut scenario) = Scenario::create(alloc, setup) else {
         panic!(rt; "no scenario");

@@ -1,5 +1,5 @@
 //! Loadings of cases before and after edits.
-use crate::cases::{loading_of, scenario_of};
+use crate::cases::{lean_loading_of, loading_of, scenario_of, threaded_loading_of};
 use ltm_flows::Loading;
 use ltm_io::MemFolder;
 use ltm_scenario::{Batch, Edit, EditFault, Scenario};
@@ -94,14 +94,35 @@ fn closure_spills_back_to_the_origin(rt: HostRuntime) {
 }
 
 // `b` opens after 8 slots. `a` then sends 500 in a slot, and sees the room at its entry only a wave time of 4 slots later.
+fn expect_discharge(rt: &impl Abort, loading: &Loading) {
+    expect_totals(rt, loading, [5000, 1000, 2000, 2000]);
+    expect_counts(rt, loading, 6, [3000, 0, 0, 0]);
+    expect_counts(rt, loading, 8, [3000, 0, 0, 0]);
+    expect_counts(rt, loading, 10, [3000, 1000, 1000, 0]);
+    expect_counts(rt, loading, 12, [3000, 2000, 2000, 1000]);
+}
+
 #[test]
 fn queue_discharges_after_wave_time(rt: HostRuntime) {
     let loading = loading_of(&rt, &closed_corridor(&rt, rt.alloc(), 8));
-    expect_totals(&rt, &loading, [5000, 1000, 2000, 2000]);
-    expect_counts(&rt, &loading, 6, [3000, 0, 0, 0]);
-    expect_counts(&rt, &loading, 8, [3000, 0, 0, 0]);
-    expect_counts(&rt, &loading, 10, [3000, 1000, 1000, 0]);
-    expect_counts(&rt, &loading, 12, [3000, 2000, 2000, 1000]);
+    expect_discharge(&rt, &loading);
+}
+
+// What stands on links is enough: the same counts, and memory is found for them.
+#[test]
+fn queue_discharges_without_history(rt: HostRuntime) {
+    let loading = lean_loading_of(&rt, &closed_corridor(&rt, rt.alloc(), 8));
+    expect_discharge(&rt, &loading);
+}
+
+// And so do nodes that are shared out over threads, however many there are.
+#[test]
+fn queue_discharges_in_threads(rt: HostRuntime) {
+    let scenario = closed_corridor(&rt, rt.alloc(), 8);
+    for threads in [0, 1, 2, 3, 8, 64] {
+        let loading = threaded_loading_of(&rt, &scenario, threads);
+        expect_discharge(&rt, &loading);
+    }
 }
 
 /// Five hundred such links in a row, over 1,005 slots: the counts of their loading are more than 1,500,000.

@@ -19,7 +19,7 @@ pub const DEMAND: &str = "origin,destination,from_slot,to_slot,vehicles\nn1,n2,0
 pub const SPLITS: &str = "node,destination,from_slot,weights\nn1,n2,0,a=1\n";
 
 pub const USAGE: &str =
-    "usage: ltm load | ltm delay | ltm gap | ltm session N | ltm try START NODES | ltm routes [times] | ltm curves | ltm check | ltm view V | ltm editors K\n";
+    "usage: ltm load | ltm delay | ltm gap | ltm totals N | ltm session N | ltm try START NODES | ltm routes [times] | ltm curves | ltm check | ltm view V | ltm editors K\n";
 
 /// The four files of a case, in a folder of which these fetches fail.
 pub fn folder_of(alloc: Global, files: [&str; 4], failing: &[u64]) -> Result<MemFolder, NoMemory> {

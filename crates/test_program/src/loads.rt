@@ -100,6 +100,26 @@ fn tells_the_gap(rt: HostRuntime) -> Result<(), Fail> {
     expect(&rt, &["gap", "n3"], &mut folder, Status::Usage, USAGE)
 }
 
+// By hand: half a vehicle sets out in each of the first two slots, and takes two seconds over the road.
+#[test]
+fn totals_are_told_by_boundary(rt: HostRuntime) -> Result<(), Fail> {
+    let alloc = rt.alloc();
+    let mut folder = one_road(alloc)?;
+    let each =
+        "link a entered 500 1000 1000 1000 left 0 0 500 1000\norigin n1 departed 500 1000 1000 1000\n";
+    expect(&rt, &["totals", "1"], &mut folder, Status::Ok, each)?;
+    let third = "link a entered 1000 1000 left 500 1000\norigin n1 departed 1000 1000\n";
+    expect(&rt, &["totals", "3"], &mut folder, Status::Ok, third)?;
+    let last = "link a entered 1000 left 1000\norigin n1 departed 1000\n";
+    expect(&rt, &["totals", "4"], &mut folder, Status::Ok, last)?;
+    expect(&rt, &["totals", "10000"], &mut folder, Status::Ok, last)?;
+    let others: [&[&str]; 3] = [&["totals"], &["totals", "0"], &["totals", "10001"]];
+    for words in others {
+        expect(&rt, words, &mut folder, Status::Usage, USAGE)?;
+    }
+    Ok(())
+}
+
 #[test]
 fn refuses_a_bad_case(rt: HostRuntime) -> Result<(), Fail> {
     let cases: [(&str, &str, &str, &str); 8] = [

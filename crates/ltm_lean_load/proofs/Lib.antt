@@ -1,0 +1,5 @@
+pub mod Adding
+pub mod Elements
+pub mod Moving
+pub mod Published
+pub mod Trading

@@ -1,0 +1,4 @@
+pub mod Adding
+pub mod Choice
+pub mod Nodes
+pub mod Publishing

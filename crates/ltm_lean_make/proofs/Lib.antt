@@ -1,0 +1,3 @@
+pub mod Pushed
+pub mod First
+pub mod Widening
