@@ -4,8 +4,9 @@
 CITY is one of `small` (24 zones, 76 links, 16,000 vehicles), `middle` (38 zones, 914 links, 30,000 vehicles) and
 `large` (147 zones, 2,836 links, 60,000 vehicles); the vehicles set out in an hour, most in its middle. Junctions stand
 on a grid whose places are shaken, and two-way roads join neighbours, the shortest first, at most four at each. Every
-fourth row and column of the grid are main roads. Trips go between zones by a gravity model. The same words make the
-same files on every machine: the numbers come from Python's own generator with a fixed seed.
+fourth row and column of the grid are main roads, with two lanes each way in `large`, which its vehicles need. Trips go
+between zones by a gravity model. The same words make the same files on every machine: the numbers come from Python's
+own generator with a fixed seed.
 """
 from __future__ import annotations
 
@@ -30,7 +31,8 @@ QUARTERS = (3, 7, 4, 2)  # what sets out in each quarter of the hour, in sixteen
 @dataclass(frozen=True)
 class City:
     """The size of a city: columns and rows of junctions, zones, two-way roads, vehicles, metres between junctions,
-    vehicles that stand on a kilometre, and the step and the horizon in seconds."""
+    vehicles that stand on a kilometre of a lane, the lanes of a main road each way, and the step and the horizon in
+    seconds."""
 
     columns: int
     rows: int
@@ -39,14 +41,15 @@ class City:
     vehicles: int
     spacing: int
     jam: int
+    lanes: int
     step: int
     horizon: int
 
 
 CITIES = {
-    "small": City(6, 4, 24, 38, 16_000, 800, 142, 5, 9_000),
-    "middle": City(18, 15, 38, 457, 30_000, 500, 175, 10, 9_000),
-    "large": City(28, 27, 147, 1_418, 60_000, 500, 160, 10, 9_000),
+    "small": City(6, 4, 24, 38, 16_000, 800, 142, 1, 5, 9_000),
+    "middle": City(18, 15, 38, 457, 30_000, 500, 175, 1, 10, 9_000),
+    "large": City(28, 27, 147, 1_418, 60_000, 500, 160, 2, 10, 9_000),
 }
 
 
@@ -98,10 +101,10 @@ def links_of(city: City, places: list[tuple[float, float]]) -> list[Link]:
     """The links, one for each direction of a road."""
     links = []
     for one, other in roads_of(city, places):
-        main = is_main(city, (one, other))
+        speed, lanes = (80, city.lanes) if is_main(city, (one, other)) else (40, 1)
         for tail, head in ((one, other), (other, one)):
             length = max(round(math.dist(places[tail], places[head])), city.step * 20)
-            links.append(Link(f"l{tail}_{head}", f"n{tail}", f"n{head}", length, 80 if main else 40, 18, city.jam))
+            links.append(Link(f"l{tail}_{head}", f"n{tail}", f"n{head}", length, speed, 18, lanes * city.jam))
     return links
 
 

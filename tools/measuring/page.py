@@ -30,7 +30,7 @@ here. Each section says when, on which machine, at which commit and by which pro
 is called unproved was built from the same text without its proofs, by other means, and may be several times slower
 than the proved one, which `./ltm --prove` builds: hold it against the plain engine, which was run beside it.
 
-    tools/measure                                 # all of it, in some ten minutes
+    tools/measure                                 # all of it, in some ten minutes, and the city
     tools/measure --plain PROGRAM speed sizes     # two sections, one of them beside a plain engine
 
 What the proofs and the tests cost stands in [CONTRIBUTING](../CONTRIBUTING.md#how-long-the-gate-takes), how near

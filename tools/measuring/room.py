@@ -14,17 +14,19 @@ TOOLS = CLONE / "tools" / "ltm-tools"
 MAKE = CLONE / "examples" / "from_sumo" / "make.py"
 STEPS = {"town": "5s", "region": "15s"}
 HORIZONS = {"town": "75", "region": "45"}
+ENDS = ("--ends", "node")  # one for each node, so that the region has 12 destinations
 
 
 @dataclass(frozen=True)
 class Room:
-    """A folder to work in; the program, the plain engine where there is one, and how much memory runs may take, in
-    MB."""
+    """A folder to work in; the program, the plain engine where there is one, how much memory runs may take, in MB, and
+    in how many iterations a city is assigned."""
 
     folder: Path
     program: Path
     plain: Path | None
     memory: float
+    iterations: int = 20
 
     def tool(self, *words: str | Path) -> Cost:
         """What a command of the tools costs, with all that it starts."""
@@ -55,7 +57,7 @@ def imported(folder: Path, name: str, more: Sequence[str]) -> tuple[Path, Cost]:
     files = sources(folder, name)
     case = folder / "_".join([name, *(word.strip("-") for word in more)])
     fit = ("--fit", STEPS[name], "--horizon", HORIZONS[name])
-    cost = cost_of([sys.executable, TOOLS, "from-sumo", *files, case, *fit, "--saturation", "road", *more])
+    cost = cost_of([sys.executable, TOOLS, "from-sumo", *files, case, *fit, "--saturation", "road", *ENDS, *more])
     return case, cost
 
 

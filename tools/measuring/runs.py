@@ -1,7 +1,11 @@
 """Running a command and reading what it cost: processor time, memory, output."""
 import os
+import re
 import subprocess
+import sys
 import tempfile
+import threading
+import time
 from collections.abc import Sequence
 from dataclasses import dataclass
 from pathlib import Path
@@ -50,6 +54,65 @@ def cost_of(words: Sequence[str | Path], folder: Path | None = None, script: Pat
             said = err.read().decode("utf-8", "replace").strip().splitlines()
             raise Fault(f"{words[0]} ended with status {process.returncode}" + (f": {said[-1]}" if said else ""))
         return Cost(used.ru_utime + used.ru_stime, used.ru_maxrss / MEGABYTE, out.read())
+
+
+@dataclass(frozen=True)
+class Watched(Cost):
+    """What a run cost that was watched: `memory` is the most that it and all that it started held together, in MB; and
+    the seconds by the clock."""
+
+    clock: float
+
+
+def watched(words: Sequence[str | Path]) -> Watched:
+    """Runs a command, shows what it writes on the standard error, and looks twice a second at the memory; a Fault where
+    it does not end well."""
+    began, ended, most, lines = time.monotonic(), threading.Event(), [0.0], []
+    process = subprocess.Popen([str(word) for word in words], stdout=subprocess.PIPE, env={**LARGE_PAGES, **os.environ})
+
+    def watch() -> None:
+        while not ended.wait(0.5):
+            most[0] = max(most[0], sum(held(one) for one in started_by(process.pid)))
+
+    watching = threading.Thread(target=watch)
+    watching.start()
+    assert process.stdout is not None, "it is piped"
+    for line in process.stdout:
+        lines.append(line)
+        print(line.decode("utf-8", "replace"), end="", file=sys.stderr, flush=True)
+    _, status, used = os.wait4(process.pid, 0)
+    ended.set()
+    watching.join()
+    process.stdout.close()
+    process.returncode = os.waitstatus_to_exitcode(status)
+    if process.returncode:
+        raise Fault(f"{words[0]} ended with status {process.returncode}")
+    seconds = used.ru_utime + used.ru_stime
+    return Watched(seconds, most[0] / MEGABYTE, b"".join(lines), time.monotonic() - began)
+
+
+def started_by(process: int) -> list[int]:
+    """A process, and all that it has started, those started by these too."""
+    children: dict[int, list[int]] = {}
+    for stat in Path("/proc").glob("[0-9]*/stat"):
+        try:
+            parent = int(stat.read_text(errors="replace").rpartition(")")[2].split()[1])
+        except (OSError, IndexError):
+            continue  # it has ended meanwhile
+        children.setdefault(parent, []).append(int(stat.parent.name))
+    found = [process]
+    for one in found:
+        found += children.get(one, [])
+    return found
+
+
+def held(process: int) -> float:
+    """The memory that a process holds in kilobytes, of pages that several share its part; 0 where it has ended."""
+    try:
+        found = re.search(r"^Pss:\s+(\d+)", Path(f"/proc/{process}/smaps_rollup").read_text(), re.MULTILINE)
+    except OSError:
+        return 0.0
+    return float(found[1]) if found else 0.0
 
 
 def least(costs: Sequence[Cost]) -> Cost:

@@ -1,5 +1,5 @@
 """The sections of the page, in order."""
-from . import answers, panning, speeds, towns
+from . import answers, cities, panning, speeds, towns
 from .page import Section
 
 SECTIONS = (
@@ -55,6 +55,13 @@ SECTIONS = (
         "result.",
         towns.assigning,
         needs_sumo=True,
+    ),
+    Section(
+        "city",
+        "A city assigned",
+        "[`assign`](ASSIGN.md) of the [city](../examples/assign/README.md) `large`, which has as many zones and links "
+        "as the test network of Winnipeg. The clock counts here, so run it on a machine that does nothing else.",
+        cities.city,
     ),
     Section(
         "sweep",

@@ -1,8 +1,10 @@
 """Assignments worked by hand (Wardrop's first principle, Braess's network), link times as the program tells them, and
 the command."""
 import csv
+import importlib
 import multiprocessing
 import subprocess
+import sys
 import unittest
 from itertools import islice
 from pathlib import Path
@@ -21,7 +23,7 @@ if not libraries.missing(("numpy",)):
 
     from ltm_tools.assign.assigning import Assignment, AssignOptions
     from ltm_tools.assign.crew import Crew, serve
-    from ltm_tools.assign.engine import Engine
+    from ltm_tools.assign.settling import Settling
     from ltm_tools.assign.exits import Gates, exit_moments, leaving
     from ltm_tools.assign.gaps import Gap
     from ltm_tools.assign.growing import Grown
@@ -140,14 +142,14 @@ class ByHand(Hand):
         for gently in (False, True):
             assert made.kept.traffic is not None
             made.crew.step(made.rule.step, made.kept.traffic, 1e-6, gently)
-            with Engine(made.net, made.crew.rows(), BUILT) as engine:
+            with Settling(made.net, made.crew, BUILT) as engine:
                 engine.counts()
                 self.assertEqual(engine.spent()[0], first.look.spent)
         hidden = Assignment(Case.read(self.case(**HIDDEN, signals=None)), AssignOptions(iterations=1))
         next(hidden.run(BUILT))
         assert hidden.kept.traffic is not None
         hidden.crew.step(hidden.rule.step, hidden.kept.traffic, 1e-6, False)
-        self.assertEqual(hidden.crew.rows(), hidden.best_rows)  # also where nothing flows
+        self.assertEqual(hidden.crew.rows(), hidden.best_shares.rows())  # also where nothing flows
 
     def test_who_has_not_arrived_comes_first(self) -> None:
         """Of two loadings that is the better in which more arrive, and of two in which as many do that in which less is
@@ -184,13 +186,29 @@ class ByHand(Hand):
 
     def test_made_cities(self) -> None:
         """They have the sizes that are told, and a way for everybody."""
-        for name, zones, links, vehicles in (("small", 24, 76, 16_000), ("middle", 38, 914, 30_000)):
+        sizes = (("small", 24, 76, 16_000), ("middle", 38, 914, 30_000), ("large", 147, 2_836, 60_000))
+        for name, zones, links, vehicles in sizes:
             folder = self.folder / name
             subprocess.run([EXAMPLES / "assign" / "make.py", name, folder], check=True)
             case = Case.read(folder)
             self.assertEqual((len(case.destinations), len(case.links)), (zones, links))
             self.assertAlmostEqual(sum(row.units for row in case.demand) / 1000, vehicles, delta=1)
             check_ways(Net(case))
+
+    def test_where_the_exact_gap_is_asked(self) -> None:
+        """Of each loading where that is cheap, else of the first and the last, and in networks that are larger still of
+        none."""
+        case = Case.read(self.case(**TWO))
+        for each, most, asked in (
+            (800, 0, [True] * 4),
+            (799, 800, [True, False, False, True]),
+            (799, 799, [False] * 4),
+        ):
+            with patch("ltm_tools.assign.assigning.SEARCHED", each), patch(
+                "ltm_tools.assign.assigning.MOST_SEARCHED", most
+            ):
+                made = Assignment(case, AssignOptions(period_ms=60_000, iterations=3, size=20.0))
+                self.assertEqual([one.exact is not None for one in made.run(BUILT)], asked)
 
     def test_swings(self) -> None:
         """With steps by which all go over to what was the best way it swings, and smaller ones end that."""
@@ -229,6 +247,29 @@ class ByHand(Hand):
         self.assertEqual(
             {name for name, leads in zip(net.names, leading_on(net, ahead)[0, :, 0]) if leads}, {"ba", "ax", "xd"}
         )
+
+    def test_links_that_lead_on_are_those_of_plain_raising(self) -> None:
+        """On roads of a city, where many nodes are nearer than all behind their links, some in turn for long: raised
+        one after another until each has a link that leads on."""
+        with patch.object(sys, "path", [str(EXAMPLES / "assign"), *sys.path]):
+            net = Net(importlib.import_module("make").case_of("small", 100))
+        draw = numpy.random.default_rng(1)
+        ahead = net.free_time // 1000 + draw.integers(0, 400, (3, *net.free_time.shape))
+        ahead[1] = draw.integers(0, 300, net.free_time.shape)  # some destinations need more rounds than are made
+        expected = numpy.zeros((3, *net.leads.shape), dtype=bool)
+        for span, end in numpy.ndindex(3, len(net.end_names)):
+            links = [(net.tail[link], net.head[link], link) for link in net.leads[:, end].nonzero()[0].tolist()]
+            outs: dict[int, list[int]] = {}
+            for tail, head, _ in links:
+                outs.setdefault(int(tail), []).append(int(head))
+            found = ahead[span, :, end].tolist()
+            found[net.ends[end]] = -1
+            while low := [node for node, heads in outs.items() if found[node] <= min(found[head] for head in heads)]:
+                for node in low:
+                    found[node] = min(found[head] for head in outs[node]) + 1
+            for tail, head, link in links:
+                expected[span, link, end] = found[tail] > found[head]
+        numpy.testing.assert_array_equal(leading_on(net, ahead), expected)
 
     def test_circles(self) -> None:
         """What gentle steps look at: who goes back and forth between `a` and `b`, and who comes there, is in a circle;
@@ -334,7 +375,7 @@ class Command(FolderTest):
         with Session(self.folder / "made", program=BUILT) as session:
             self.assertEqual(session.delay().spent, round(float(best["spent"]) * 10**6))
         self.assertIn("nodes.csv", first)
-        with patch.object(Engine, "MOST_LINES", 9):
+        with patch.object(Settling, "MOST_LINES", 9):
             self.assertEqual(self.assign("--iterations", "3")[0], 0)
         self.assertEqual(self.texts(), first)
 
@@ -374,15 +415,15 @@ class Command(FolderTest):
         """Where the program is killed once in the middle the shares are those that are found without."""
         self.case(**TWO)
         self.assertEqual(self.assign("--iterations", "3")[0], 0)
-        first, counts, calls = self.texts(), Engine._counts, []
+        first, counts, calls = self.texts(), Settling._counts, []
 
-        def killed(engine: Engine) -> object:
+        def killed(engine: Settling) -> object:
             calls.append(engine)
             if len(calls) == 2:
                 engine.open.session.process.kill()
             return counts(engine)
 
-        with patch.object(Engine, "_counts", killed):
+        with patch.object(Settling, "_counts", killed):
             self.assertEqual(self.assign("--iterations", "3")[0], 0)
         self.assertEqual((self.texts(), calls[0].open.opened), (first, 2))
 
@@ -486,10 +527,10 @@ class Command(FolderTest):
         """Where it cannot be, nothing is loaded; where a run fails, it goes again."""
         self.case(**TWO)
         (self.folder / "made").write_text("")
-        with patch.object(Engine, "__init__", side_effect=AssertionError):
+        with patch.object(Settling, "__init__", side_effect=AssertionError):
             self.assertEqual(self.assign()[::2], (1, f"ltm-tools assign: {self.folder / 'made'}: {NO_FOLDER}\n"))
         (self.folder / "made").unlink()
-        with patch.object(Engine, "__init__", side_effect=Fault("it fails")):
+        with patch.object(Settling, "__init__", side_effect=Fault("it fails")):
             self.assertEqual(self.assign()[::2], (1, "ltm-tools assign: it fails\n"))
         self.assertEqual([path.name for path in self.folder.iterdir()], ["case"])
 

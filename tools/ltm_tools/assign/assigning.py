@@ -15,13 +15,14 @@ from ..errors import Fault
 from ..formats import MINUTE_MS
 from .crew import Crew, crew_of
 from .engine import Engine, case_with
+from .engines import engine_of
 from .gaps import together
 from .growing import LOADINGS, Grown
 from .looking import Look, Looker
 from .net import Net, Whole
-from .parts import Part
+from .parts import Plan
 from .rules import BACK, METHODS, Rule, Sizes
-from .shares import Pair, PairRows, check_ways, of_splits, split_rows
+from .shares import RowShares, Shares, check_ways, of_splits, split_rows
 from .spans import Spans
 from .steps import Traffic
 
@@ -32,6 +33,7 @@ POOR = 10.0  # the relative gap of a best loading from which a step into a gridl
 BEST, FREE, PART = "best", "free", "part"  # names of shares that are kept
 LEAST, CELLS, ROOM = 16, 2**15, 12_000_000  # see `ends_at_once`
 SEARCHED = 20_000_000  # origins times slots times links at which the program's gap takes a second or two
+MOST_SEARCHED = 200_000_000  # the same, from where it takes a minute, and gigabytes
 
 
 @dataclass(frozen=True)
@@ -100,18 +102,17 @@ class Assignment:
         check_ways(self.net)
         self.looker, self.spans = Looker(self.net), Spans.by_period(self.net.slots, period)
         rows = case.standing_splits() if splits is None else splits
-        self.parts = parts_of(self.looker, rows, self.spans, options.processes)
+        self.plans = plans_of(self.net, rows, self.spans, options.processes)
         self.room = self.looker.room(self.spans)
         self.kept = Kept(BEST)
-        self.crew = Crew(self.parts)
-        self.crew.keep(FREE)
-        self.best_rows: dict[Pair, PairRows] = {}
+        self.crew = Crew([])
+        self.best_shares: Shares = RowShares({})
         self.gently = False  # whether a step has led to a gridlock
 
     @property
     def best(self) -> Whole:
         """The best weights, `[spans, L, D]`."""
-        return of_splits(self.net, split_rows(self.best_rows), self.spans)
+        return of_splits(self.net, split_rows(self.best_shares.rows()), self.spans)
 
     @property
     def best_one(self) -> Iteration | None:
@@ -122,9 +123,11 @@ class Assignment:
         """Each iteration as it is done, the first of the shares that it begins with; the last is that behind which no
         share changes, at the latest. Where a loading is a gridlock the demand is loaded in parts behind it."""
         numbers, sizes, grown = iter(range(self.options.iterations + 1)), self.rule.sizes(self.rule.size), Grown()
-        with crew_of(self.parts, self.options.processes) as self.crew, Engine(
-            self.net, self.crew.rows(), program
+        self.kept, self.gently = Kept(BEST), False
+        with crew_of(self.plans, self.options.processes) as self.crew, engine_of(
+            self.net, self.crew, program
         ) as engine:
+            self.crew.keep(FREE)
             while True:
                 for made in self._steps(engine, self.kept, numbers, sizes):
                     yield made
@@ -138,7 +141,7 @@ class Assignment:
                 else:
                     return
                 yield from self._in_parts(grown, sizes, numbers, program)
-                engine.tell(self.crew.rows())
+                engine.tell(self.crew)
 
     def _in_parts(
         self, grown: Grown, sizes: Sizes, numbers: Iterator[int], program: str | os.PathLike[str] | None
@@ -150,7 +153,7 @@ class Assignment:
             self.crew.load(demand / 100)
             kept, made = Kept(PART), None
             sizes.anew()
-            with Engine(self.net, self.crew.rows(), program, scaled(self.case, demand)) as engine:
+            with engine_of(self.net, self.crew, program, scaled(self.case, demand)) as engine:
                 for made in self._steps(engine, kept, islice(numbers, LOADINGS), sizes, demand):
                     yield made
                     locks = self._locks(made.look)
@@ -180,38 +183,32 @@ class Assignment:
                 kept.one, kept.left, kept.traffic = made, self.left, traffic
                 self.crew.keep(kept.name)
                 if kept is self.kept:
-                    self.best_rows = dict(engine.rows)
+                    self.best_shares = engine.told
             yield made
             if is_lost:
                 assert kept.traffic is not None, "what is lost is worse than another"
                 self.gently, traffic = True, kept.traffic
                 self.crew.back(kept.name)
             self.crew.step(self.rule.step, traffic, made.size, self.gently)
-            if not engine.tell(self.crew.rows()) and not is_lost:
+            if not engine.tell(self.crew) and not is_lost:
                 return
 
     def _looked(self, engine: Engine, number: int, sizes: Sizes, demand: int = 100) -> tuple[Iteration, Traffic]:
         """The loading of the shares of now, and its traffic."""
         counts, (spent, not_there) = engine.counts(), engine.spent()
         times = self.looker.times(counts)
-        told = self.crew.look(times)
+        said = self.crew.look(times)
         self.left = counts.left
-        look = Look(
-            spent,
-            not_there,
-            math.fsum(regret for of_part in told for regret in of_part.regrets),
-            together([gap for of_part in told for gap in of_part.gaps]),
-        )
-        flow = numpy.concatenate([of_part.flow for of_part in told], axis=2).sum(axis=2)
-        asked = self.exact_is_cheap or number in (0, self.options.iterations)
-        exact = engine.exact_gap() if asked and demand == 100 else None
-        traffic = Traffic(flow, self.room, self.spans.lengths * self.net.step)
+        look = Look(spent, not_there, math.fsum(said.regrets), together(said.gaps))
+        exact = engine.exact_gap() if self._asks_exact(number) and demand == 100 else None
+        traffic = Traffic(said.flow, self.room, self.spans.lengths * self.net.step)
         return Iteration(number, look, sizes.after(look.score), exact=exact, demand=demand), traffic
 
-    @property
-    def exact_is_cheap(self) -> bool:
-        """Whether the program's own gap is asked of each loading, and not of the first and the last alone."""
-        return len(self.net.origins) * self.net.slots * len(self.net.names) <= SEARCHED
+    def _asks_exact(self, number: int) -> bool:
+        """Whether the program's own gap is asked of a loading: of each, where that is cheap; of the first and the last
+        alone; or of none, where only that of the result is asked in the end."""
+        searched = len(self.net.origins) * self.net.slots * len(self.net.names)
+        return searched <= SEARCHED or number in (0, self.options.iterations) and searched <= MOST_SEARCHED
 
     def _locks(self, look: Look) -> bool:
         """Whether many have not arrived, so that it may be a gridlock."""
@@ -230,7 +227,7 @@ class Assignment:
 
     def best_case(self) -> Case:
         """The case with the best shares."""
-        return case_with(self.case, self.best_rows)
+        return case_with(self.case, split_rows(self.best_shares.rows()))
 
 
 def ends_at_once(net: Net, processes: int) -> int:
@@ -241,18 +238,17 @@ def ends_at_once(net: Net, processes: int) -> int:
     return max(1, min(by_cells, by_room, len(net.end_names) // processes))
 
 
-def parts_of(looker: Looker, splits: Iterable[Split], spans: Spans, processes: int = 1) -> list[Part]:
+def plans_of(net: Net, splits: Iterable[Split], spans: Spans, processes: int = 1) -> list[Plan]:
     """The destinations of a case in parts, as many for each of so many processes, with the shares of split rows."""
-    net, rows = looker.net, list(splits)
+    rows: dict[str, list[Split]] = {}
+    for row in splits:
+        rows.setdefault(row.destination, []).append(row)
     count = -(-len(net.end_names) // ends_at_once(net, processes))
-    found = []
-    for places in numpy.array_split(numpy.arange(len(net.end_names)), -(-count // processes) * processes):
-        if not len(places):
-            continue
-        own = net.part(places)
-        departures = looker.departures.part(places, len(net.end_names))
-        found.append(Part(own, departures, of_splits(own, rows, spans), spans))
-    return found
+    return [
+        Plan(net, places, [row for place in places.tolist() for row in rows.get(net.end_names[place], ())], spans)
+        for places in numpy.array_split(numpy.arange(len(net.end_names)), -(-count // processes) * processes)
+        if len(places)
+    ]
 
 
 def scaled(case: Case, per_cent: int) -> Case:

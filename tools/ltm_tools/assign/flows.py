@@ -7,8 +7,10 @@ from __future__ import annotations
 
 from copy import copy
 from itertools import accumulate
+from typing import Any
 
 import numpy
+from numpy.typing import NDArray
 
 from .net import WHOLE, Net, Real, Whole
 from .spans import Spans
@@ -16,7 +18,9 @@ from .spans import Spans
 
 class Departures:
     """What sets out of each pair of an origin and a destination at boundaries: half of what a slot produces at its
-    beginning, half at its end."""
+    beginning, half at its end. There are many of them, so they are kept in as few bytes as they need."""
+
+    MOST_EXACT = 2**22  # thousandths of a vehicle: halves of them are exact in 32 bits
 
     def __init__(self, origins: Whole, ends: Whole, made: Whole) -> None:
         """By what each pair has produced by each boundary, `[pairs, slots + 1]`."""
@@ -24,23 +28,42 @@ class Departures:
         amounts = numpy.zeros(made.shape)
         amounts[:, :-1] += half
         amounts[:, 1:] += half
-        pair, self.at = numpy.nonzero(amounts)
-        self.amount, self.origin, self.end = amounts[pair, self.at], origins[pair], ends[pair]
+        pair, at = numpy.nonzero(amounts)
+        is_small = amounts.max(initial=0.0) < self.MOST_EXACT
+        self._amount = amounts[pair, at].astype(numpy.float32 if is_small else numpy.float64)
+        self._at, self._origin, self._end = (narrow(of) for of in (at, origins[pair], ends[pair]))
+        self._part = 1.0
 
-    def part(self, places: Whole, count: int) -> "Departures":
-        """The same for some of so many destinations, which are numbered anew in this order."""
-        number = numpy.full(count, -1, dtype=numpy.int64)
-        number[places] = numpy.arange(len(places))
-        made, chosen = copy(self), number[self.end] >= 0
-        made.at, made.amount, made.origin = self.at[chosen], self.amount[chosen], self.origin[chosen]
-        made.end = number[self.end[chosen]]
-        return made
+    @property
+    def at(self) -> Whole:
+        """The boundary of each."""
+        return self._at.astype(numpy.int64)
+
+    @property
+    def origin(self) -> Whole:
+        """The node of each."""
+        return self._origin.astype(numpy.int64)
+
+    @property
+    def end(self) -> Whole:
+        """The destination of each."""
+        return self._end.astype(numpy.int64)
+
+    @property
+    def amount(self) -> Real:
+        """How much sets out, in thousandths of a vehicle."""
+        return self._amount.astype(numpy.float64) * self._part
 
     def scaled(self, part: float) -> "Departures":
         """The same with a part of each amount."""
         made = copy(self)
-        made.amount = self.amount * part
+        made._part = part
         return made
+
+
+def narrow(numbers: Whole) -> NDArray[Any]:
+    """Whole numbers from 0 on in as few bytes as the largest needs."""
+    return numbers.astype(numpy.min_scalar_type(int(numbers.max(initial=0))))
 
 
 def arriving(net: Net, moments: Whole) -> tuple[Whole, Real]:
@@ -96,11 +119,12 @@ def flows(net: Net, leave: Whole, set_out: Real, weights: Whole, spans: Spans) -
 def leaving_origins(net: Net, departures: Departures, moments: Whole) -> Real:
     """What leaves origins' queues at each boundary, `[slots + 2, N, D]`, by the moments at which those have left who
     set out at a boundary, `[slots + 1, N]`."""
-    boundary, part = arriving(net, moments[departures.at, departures.origin])
+    origin, amount = departures.origin, departures.amount
+    boundary, part = arriving(net, moments[departures.at, origin])
     shape = (net.slots + 2, len(net.node_names), len(net.end_names))
-    place = (boundary * shape[1] + departures.origin) * shape[2] + departures.end
-    later = departures.amount * part
+    place = (boundary * shape[1] + origin) * shape[2] + departures.end
+    later = amount * part
     places = numpy.concatenate((place, place + shape[1] * shape[2]))
-    amounts = numpy.concatenate((departures.amount - later, later))
+    amounts = numpy.concatenate((amount - later, later))
     found = numpy.bincount(places, amounts, shape[0] * shape[1] * shape[2])
     return numpy.asarray(found, dtype=numpy.float64).reshape(shape)

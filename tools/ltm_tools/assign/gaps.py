@@ -36,28 +36,18 @@ class Gap(NamedTuple):
 def gaps(departures: Departures, moments: Whole, labels: Labels) -> list[Gap]:
     """The gap of each destination, by the moments at which those have left an origin's queue who set out at a
     boundary, `[slots + 1, N]`."""
-    net, at, end = labels.net, departures.at, departures.end
-    left = moments[at, departures.origin]
-    mean, best = (_label(label, left, departures) for label in (labels.means, labels.bests))
-    arrives = mean <= net.slots * net.step
-    amount = numpy.where(arrives, departures.amount, 0.0)
+    net, at, end, origin, amounts = labels.net, departures.at, departures.end, departures.origin, departures.amount
+    left = moments[at, origin]
+    mean, best = (_label(label, left, origin, end) for label in (labels.means, labels.bests))
+    amount = numpy.where(mean <= net.slots * net.step, amounts, 0.0)
     lost, spent = amount * (mean - best), amount * (mean - at * net.step)
     spans = labels.spans.of[numpy.minimum(at, net.slots - 1)]
-    group = (end * len(labels.spans) + spans) * len(net.node_names) + departures.origin
+    group = (end * len(labels.spans) + spans) * len(net.node_names) + origin
     ends, groups = len(net.end_names), len(labels.spans) * len(net.node_names)
     of_groups = numpy.bincount(group, lost, ends * groups).reshape(ends, groups)
-    found = []
-    for place, of_group in enumerate(of_groups):
-        chosen = end == place
-        found.append(
-            Gap(
-                math.fsum(of_group[of_group > 0].tolist()),
-                math.fsum(spent[chosen].tolist()),
-                math.fsum(amount[chosen].tolist()),
-                math.fsum(departures.amount[chosen].tolist()),
-            )
-        )
-    return found
+    sums = (numpy.bincount(end, of, ends).tolist() for of in (spent, amount, amounts))
+    gains = (math.fsum(of_group[of_group > 0].tolist()) for of_group in of_groups)
+    return [Gap(*numbers) for numbers in zip(gains, *sums)]
 
 
 def together(parts: list[Gap]) -> Gap:
@@ -65,13 +55,12 @@ def together(parts: list[Gap]) -> Gap:
     return Gap(*(math.fsum(numbers) for numbers in zip(*parts)))
 
 
-def _label(label: Label, left: Whole, departures: Departures) -> Real:
-    """The arrival by a label from the moments at which origins' queues are left."""
+def _label(label: Label, left: Whole, origin: Whole, end: Whole) -> Real:
+    """The arrival at destinations by a label from the moments at which origins' queues are left."""
     net = label.net
     boundary = numpy.minimum(left // net.step, net.slots)
     low, high = (
-        label.values[boundary + later, departures.origin, departures.end].astype(numpy.int64)
-        + (boundary + later) * net.step
+        label.values[boundary + later, origin, end].astype(numpy.int64) + (boundary + later) * net.step
         for later in (0, 1)
     )
     return numpy.asarray(low + (high - low) * ((left - boundary * net.step) / net.step))

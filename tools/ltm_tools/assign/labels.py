@@ -14,6 +14,7 @@ and write them. What is rounded is worked out in whole numbers, so both give the
 from __future__ import annotations
 
 from copy import copy
+from functools import cached_property
 from typing import Any
 
 import numpy
@@ -47,43 +48,54 @@ class Course:
         self.far = min(FAR, self.most // 2)
         self.places = boundary * len(net.node_names) + net.head
 
+    def free_from(self, net: Net) -> int:
+        """The first boundary from which on all links are left in their free-flow times."""
+        slower = (self.trip != net.free).any(axis=1).nonzero()[0]
+        return int(slower[-1]) + 1 if len(slower) else 0
+
 
 class Label:
-    """A label at each boundary, and one behind the end: the time still to go from each node, `[slots + 2, N, D]`, and
-    by how much it rises or falls at most up to the next boundary."""
+    """A label at each boundary, and one behind the end: the time still to go from each node, `[slots + 2, N, D]`; by
+    how much it rises up to the next boundary, and by how much it rises or falls at most."""
 
     def __init__(self, net: Net, course: Course) -> None:
         self.net, self.course = net, course
         self.free = numpy.minimum(net.free_time, course.far).astype(course.width)
         self.columns = numpy.arange(len(net.end_names))
-        self.lost = (net.free_time >= FAR).nonzero()
+        self.lost = (net.free_time >= FAR).nonzero()  # from nodes that no link leaves to all but themselves
+        self.rows = numpy.zeros(len(net.node_names), dtype=numpy.int64)  # of each node in `tails`
+        self.rows[net.tails] = numpy.arange(len(net.tails))
         self.values = numpy.empty((net.slots + 2, *self.free.shape), dtype=course.width)
         self.values[-2:] = self.free
+        self.rises = numpy.zeros_like(self.values)
         self.steepest = numpy.zeros(net.slots + 2, dtype=numpy.int64)
         self.most = course.most // net.step
         self.found, self.low = (numpy.empty(net.leads.shape, dtype=course.width) for _ in "fl")
-        self.flat = self.values.reshape(-1, len(net.end_names))
-        self.next = self.flat[len(net.node_names) :]  # the same a boundary later
+        self.flat, self.flat_rises = (of.reshape(-1, len(net.end_names)) for of in (self.values, self.rises))
 
     def set(self, k: int, of_tails: Narrow) -> None:
         """Sets the label at a boundary, by that of the nodes of `tails`."""
         here = self.values[k]
-        here[:] = self.free
-        here[self.net.tails] = of_tails
+        of_tails.astype(here.dtype, copy=False).take(self.rows, axis=0, out=here, mode="clip")
         here[self.net.ends, self.columns] = 0
         if len(self.lost[0]):
             here[self.lost] = self.course.far
-        rises = self.values[k + 1] - here
+        rises = numpy.subtract(self.values[k + 1], here, out=self.rises[k])
         self.steepest[k] = max(int(rises.max()), -int(rises.min()))
+
+    def set_free(self, first: int) -> None:
+        """Sets the labels of a boundary and of all behind it to the times at free flow."""
+        self.values[first:] = self.free
+        self.rises[first:] = 0
+        self.steepest[first:] = 0
 
     def by_links(self, k: int, part: Narrow, trip: Narrow) -> Narrow:
         """The time by each link that is entered at a boundary, and on, `[L, D]`; part and trip are those of the course
         for each destination. The next call uses the array again."""
         course, found, low = self.course, self.found, self.low
         places = course.places[k]
-        self.next.take(places, axis=0, out=found, mode="clip")
+        self.flat_rises.take(places, axis=0, out=found, mode="clip")
         self.flat.take(places, axis=0, out=low, mode="clip")
-        found -= low
         if self.steepest[course.first[k] : course.last[k] + 1].max() <= self.most:
             found *= part
             found //= found.dtype.type(self.net.step)
@@ -97,10 +109,8 @@ class Label:
         """The same for a link of each node of `tails` and destination alone."""
         course = self.course
         places = course.places[k].take(links) * links.shape[1] + self.columns
-        low, high = (of.reshape(-1).take(places).astype(numpy.int64) for of in (self.flat, self.next))
-        return numpy.asarray(
-            low + (high - low) * course.part[k].take(links) // self.net.step + course.trip[k].take(links)
-        )
+        low, rises = (of.reshape(-1).take(places).astype(numpy.int64) for of in (self.flat, self.flat_rises))
+        return numpy.asarray(low + rises * course.part[k].take(links) // self.net.step + course.trip[k].take(links))
 
 
 class Labels:
@@ -124,12 +134,17 @@ class Labels:
         self.bests, self.means = Label(net, course), Label(net, course)
         behind = (net.free[:, None] + net.free_time[net.head]).astype(numpy.float64)
         best = net.best_of(numpy.where(net.leads, behind, numpy.inf))
+        is_free, last = course.free_from(net), True  # whether no span behind this one is used
         for span in range(len(spans) - 1, -1, -1):
             of_span = flow[spans.starts[span] : spans.ends[span]]
             self.flow[span] = of_span.sum(axis=0)
             near = flow[max(0, spans.starts[span] - 1) : spans.ends[span] + 1]
             self.idle[span] = near.sum(axis=0) < NOTHING
             swept = Swept(net, course, self.slots_of(span), of_span)
+            last = last and bool(spans.starts[span] >= is_free and self.idle[span].all())
+            if last:
+                self._set_free(span, swept)
+                continue
             best = self._bests_of(span, swept, best)
             self._means_of(span, swept, weights[span])
 
@@ -147,14 +162,26 @@ class Labels:
         """The slots of a span, the last first."""
         return range(int(self.spans.ends[span]) - 1, int(self.spans.starts[span]) - 1, -1)
 
+    def _set_free(self, span: int, swept: "Swept") -> None:
+        """Sets the labels of a span in which nothing flows, in it and behind it, and all links take their free-flow
+        times."""
+        net, slots = self.net, swept.slots
+        for label in (self.bests, self.means):
+            label.set_free(slots[-1])
+        self.ahead[span] = self.bests.free.astype(numpy.int64) * len(slots)
+        going = net.free.astype(self.course.width)[:, None] + self.bests.free[net.head]
+        for place in range(len(slots)):
+            swept.weigh(going, place, self.time[span])
+        self.time[span] /= swept.total()[net.group]
+
     def _bests_of(self, span: int, swept: "Swept", best: Whole) -> Whole:
         """Sets the best labels of a span: the best link of each node, by which they are, sought from those of the span
         behind it."""
         net, label = self.net, self.bests
         for _ in range(ROUNDS):
             sums, chosen = numpy.zeros(self.time.shape[1:]), best * len(label.columns) + label.columns
-            for place, k in enumerate(swept.slots):
-                going = label.by_links(k, swept.part[place], swept.trip[place])
+            for place, (k, part, trip) in enumerate(zip(swept.slots, *swept.links)):
+                going = label.by_links(k, part, trip)
                 label.set(k, going.reshape(-1).take(chosen))
                 swept.weigh(going, place, sums)
             better = net.best_of(numpy.where(net.leads, sums, numpy.inf))
@@ -172,8 +199,8 @@ class Labels:
         """Sets the mean labels of a span, and the mean times by its links."""
         net, label, real = self.net, self.means, weights.astype(numpy.float64)
         by_shares: Truth = net.routed & ~self.idle[span][net.tails]
-        for place, k in enumerate(swept.slots):
-            going = label.by_links(k, swept.part[place], swept.trip[place])
+        for place, (k, part, trip) in enumerate(zip(swept.slots, *swept.links)):
+            going = label.by_links(k, part, trip)
             swept.weigh(going, place, self.time[span])
             mean = numpy.ceil(swept.summed(real) / WHOLE)
             best = self.bests.values[k].take(net.tails, axis=0)
@@ -190,12 +217,16 @@ class Swept:
         self.net, self.slots = net, slots
         self.weight = flow[::-1].take(net.tails, axis=1)
         self.weight += STILL
-        shape, ends = (len(slots), *net.leads.shape), len(net.end_names)
-        self.part, self.trip = (
-            numpy.repeat(of[slots.stop + 1 : slots.start + 1][::-1].astype(course.width), ends, axis=1).reshape(shape)
-            for of in (course.part, course.trip)
-        )
+        self.course = course
         self.real, self.product = numpy.empty(net.leads.shape), numpy.empty(net.leads.shape)
+
+    @cached_property
+    def links(self) -> tuple[Narrow, Narrow]:
+        """The part and the trip of the course of each slot, for each destination."""
+        wide = numpy.empty((2, len(self.slots), *self.net.leads.shape), dtype=self.course.width)
+        for found, of in zip(wide, (self.course.part, self.course.trip)):
+            found[:] = of[self.slots.stop + 1 : self.slots.start + 1][::-1, :, None]
+        return wide[0], wide[1]
 
     def weigh(self, going: Narrow, place: int, sums: Real) -> None:
         """Adds times by links in a slot, weighed by what flows at their tails, to sums."""

@@ -19,21 +19,33 @@ ROUNDS = 40  # of raising all at once; where nodes raise each other longer a sea
 def leading_on(net: Net, ahead: Whole) -> Truth:
     """Of each span, link and destination whether the link leads on, by the sums `[spans, N, D]` of least times
     still to go."""
-    potential = ahead.copy()
-    potential[:, net.ends, numpy.arange(len(net.end_names))] = -1
-    potential[:, net.free_time >= FAR] = NONE
-    low: Truth = numpy.zeros((len(ahead), *net.routed.shape), dtype=bool)
+    found: Truth = numpy.empty((len(ahead), *net.leads.shape), dtype=bool)
+    for span, own in enumerate(ahead):
+        potential = own.copy()
+        potential[net.ends, numpy.arange(len(net.end_names))] = -1
+        potential[net.free_time >= FAR] = NONE
+        for end in raised_at_once(net, potential):
+            potential[:, end] = raised(net, own[:, end].tolist(), end)
+        numpy.logical_and(potential[net.tail] > potential[net.head], net.leads, out=found[span])
+    return found
+
+
+def raised_at_once(net: Net, potential: Whole) -> list[int]:
+    """Raises the potentials `[N, D]` of a span, all that are too low at once, until each node has a link that leads on;
+    the destinations for which that takes too many rounds."""
+    ends = numpy.arange(potential.shape[1])  # those at which something was raised in the last round
     for _ in range(ROUNDS):
-        behind = numpy.where(net.leads, potential[:, net.head], NONE)
+        of_ends = potential[:, ends]
+        behind = numpy.where(net.leads[:, ends], of_ends[net.head], NONE)
         wanted = net.least_of(behind) + 1
-        now = potential[:, net.tails]
-        low = (now < wanted) & net.routed
-        if not low.any():
+        now = of_ends[net.tails]
+        low = (now < wanted) & net.routed[:, ends]
+        of_ends[net.tails] = numpy.where(low, wanted, now)
+        potential[:, ends] = of_ends
+        ends = ends[low.any(axis=0)]
+        if not len(ends):
             break
-        potential[:, net.tails] = numpy.where(low, wanted, now)
-    for span, end in numpy.argwhere(low.any(axis=1)).tolist():
-        potential[span, :, end] = raised(net, ahead[span, :, end].tolist(), end)
-    return numpy.asarray((potential[:, net.tail] > potential[:, net.head]) & net.leads)
+    return [int(end) for end in ends]
 
 
 def raised(net: Net, own: list[int], end: int) -> list[int]:

@@ -8,7 +8,6 @@ import numpy
 from ..case import Limit
 from .engine import Counts
 from .exits import Gates, leaving, setting_out
-from .flows import Departures
 from .gaps import Gap
 from .net import Net, Real, Whole
 from .spans import Spans
@@ -51,11 +50,10 @@ class Times(NamedTuple):
 
 
 class Looker:
-    """What is the same for all loadings of a case: its demand, and when its links are open."""
+    """What is the same for all loadings of a case: when its links are open."""
 
     def __init__(self, net: Net) -> None:
         self.net = net
-        self.departures = Departures(*net.demands())
         self.exit, entry = net.limits(net.case.signals), net.limits(net.case.limits)
         self.gates = Gates(entry, self.exit)
         self.passing = numpy.minimum(numpy.minimum(entry, self.exit), net.capacity)

@@ -14,7 +14,7 @@ from typing import Any
 import numpy
 from numpy.typing import NDArray
 
-from ..case import Case, Limit, Link
+from ..case import Case, Demand, Limit, Link
 from ..case.roads import Roads
 from ..errors import Fault
 from ..formats import MOST_SLOT_UNITS
@@ -121,10 +121,12 @@ class Net:
         end = {name: place for place, name in enumerate(self.end_names)}
         found: dict[tuple[int, int], Whole] = {}
         for node, rows in self.origins.items():
-            for name in dict.fromkeys(row.destination for row in rows):
-                found[node, end[name]] = numpy.asarray(
-                    produced([row for row in rows if row.destination == name], self.slots + 1)
-                )
+            of_ends: dict[str, list[Demand]] = {}
+            for row in rows:
+                if row.destination in end:
+                    of_ends.setdefault(row.destination, []).append(row)
+            for name, of_end in of_ends.items():
+                found[node, end[name]] = numpy.asarray(produced(of_end, self.slots + 1))
         pairs = sorted(found)
         return (
             whole_array(origin for origin, _ in pairs),

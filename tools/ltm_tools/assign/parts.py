@@ -6,20 +6,25 @@ parts are.
 """
 from __future__ import annotations
 
-import math
-from collections.abc import Callable
+from collections.abc import Callable, Sequence
+from dataclasses import dataclass
 from typing import NamedTuple
 
+import numpy
+from numpy.typing import NDArray
+
+from ..case import Split
 from .flows import Departures, flows, leaving_origins
 from .gaps import Gap, gaps
 from .labels import Course, Labels
 from .looking import Times
 from .net import Net, Real, Whole
-from .regret import lost_times
-from .shares import Pair, PairRows, rounded, rows_of, with_last
+from .regret import by_destination, lost_times
+from .shares import Pair, PairRows, lines_of, of_splits, rounded, rows_of, with_last
 from .spans import Spans
 from .steps import Traffic
 
+Weights = NDArray[numpy.int16]
 Step = Callable[[Net, Labels, Whole, Traffic, float, bool], Real]
 
 
@@ -35,7 +40,7 @@ class Told(NamedTuple):
 class State(NamedTuple):
     """Shares, and what their loading said."""
 
-    weights: Whole
+    weights: Weights
     labels: Labels | None
 
 
@@ -48,6 +53,15 @@ class Part:
         self.ahead: Whole | None = None
         self.labels: Labels | None = None
         self.kept: dict[str, State] = {}
+
+    @property
+    def weights(self) -> Whole:
+        """The shares of now, `[spans, L, D]`."""
+        return self._weights.astype(numpy.int64)
+
+    @weights.setter
+    def weights(self, weights: Whole) -> None:
+        self._weights: Weights = weights.astype(numpy.int16)
 
     def load(self, part: float) -> None:
         """Has so much of the demand set out."""
@@ -65,15 +79,15 @@ class Part:
         found = gaps(self.departures, times.set_out, labels)
         labels.let_go()
         lost = lost_times(self.net, labels, self.weights)
-        return Told(found, [math.fsum(lost[:, :, place].ravel().tolist()) for place in range(len(found))], labels.flow)
+        return Told(found, by_destination(lost), labels.flow)
 
     def keep(self, name: str) -> None:
         """Keeps the shares of now by a name, with what the last loading said."""
-        self.kept[name] = State(self.weights, self.labels)
+        self.kept[name] = State(self._weights, self.labels)
 
     def back(self, name: str) -> None:
         """Goes back to the shares that were kept by a name."""
-        (self.weights, self.labels), self.ahead = self.kept[name], None
+        (self._weights, self.labels), self.ahead = self.kept[name], None
 
     def step(self, step: Step, traffic: Traffic, size: float, gently: bool) -> None:
         """Makes a step by what the last loading said. Which links lead on is told by this and earlier loadings, half by
@@ -87,3 +101,23 @@ class Part:
     def rows(self) -> dict[Pair, PairRows]:
         """The split rows of the shares of now."""
         return rows_of(self.net, self.weights, self.spans.starts.tolist())
+
+    def lines(self) -> bytes:
+        """The same as lines of `splits.csv`."""
+        return lines_of(self.rows())
+
+
+@dataclass(frozen=True)
+class Plan:
+    """Some destinations of a net by their places, and their split rows: of what a part is made where it is worked
+    out."""
+
+    net: Net
+    places: Whole
+    rows: Sequence[Split]
+    spans: Spans
+
+    def part(self) -> Part:
+        """The part."""
+        own = self.net.part(self.places)
+        return Part(own, Departures(*own.demands()), of_splits(own, self.rows, self.spans), self.spans)

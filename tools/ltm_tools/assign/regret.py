@@ -23,6 +23,12 @@ def lost_times(net: Net, labels: Labels, weights: Whole) -> Real:
     return numpy.asarray(numpy.maximum(lost, 0.0) * labels.flow[:, net.tails])
 
 
+def by_destination(lost: Real) -> list[float]:
+    """The regret of each destination, summed one number at a time."""
+    columns = numpy.broadcast_to(numpy.arange(lost.shape[-1]), lost.shape)
+    return list(numpy.bincount(columns.ravel(), lost.ravel(), lost.shape[-1]).tolist())
+
+
 def total_regret(lost: Real) -> float:
     """The regret of all, the same whatever the order of the sum."""
     return math.fsum(lost.ravel().tolist())

@@ -14,19 +14,20 @@ from ..formats import MINUTE_MS
 from ..scenario import edits
 from ..scenario.edits import Edit
 from ..scenario.rows import OwnRows
-from .assigning import LOST, AssignOptions, parts_of
+from .assigning import LOST, AssignOptions, plans_of
 from .closure import ALL, MOMENT, NOBODY, Closure, Cost, Passed, Response, lacking_rows
 from .engine import Counts, Engine
+from .engines import engine_of
 from .gaps import together
 from .labels import Labels
 from .leading import circling
 from .looking import Look, Looker
 from .net import WHOLE, Net, Real, Truth, Whole
-from .parts import Part
+from .parts import Part, Plan
 from .passing import at_nodes, best_now, destinations_by, leading_to, taken_by, times_now
 from .regret import lost_times, total_regret
 from .rules import Sizes
-from .shares import Pair, PairRows, check_ways, free_flow, of_splits, rounded, rows_of
+from .shares import Pair, PairRows, RowShares, check_ways, free_flow, rounded, rows_of
 from .spans import Spans
 from .steps import Traffic, stepped
 
@@ -55,11 +56,11 @@ class Base:
 
     def engine(self, program: Program) -> Engine:
         """An engine with the case as it is."""
-        return Engine(self.net, self.all, program)
+        return engine_of(self.net, RowShares(self.all), program)
 
     def parts(self, spans: Spans) -> list[Part]:
         """All destinations with the shares of the case."""
-        return parts_of(self.looker, self.splits, spans)
+        return [plan.part() for plan in plans_of(self.net, self.splits, spans)]
 
     def look(self, first: int, end: int, program: Program) -> tuple[Look, list[Passed]]:
         """The loading without a closure, and what enters each link in these slots, the busiest first."""
@@ -167,18 +168,16 @@ class Closed:
             return Cost(share, self.spent, self.not_there, 0.0, 0, self.open), {}
         found: Moment | Learning = Moment(self, done) if share == MOMENT else Learning(self, share, done)
         with self.opened():
-            self.engine.tell({**self.base.all, **found.rows})
+            self.engine.tell(RowShares({**self.base.all, **found.rows}))
             self.engine.counts()
             alone = self.engine.spent()[0]
-        self.engine.tell(self.base.all)
+        self.engine.tell(RowShares(self.base.all))
         spent, not_there = found.spent
         return Cost(share, spent, not_there, found.regret, found.iteration, alone), found.rows
 
     def part(self, spans: Spans) -> Part:
         """The destinations that pass, with the shares of the case."""
-        places, net = self.places, self.net.part(self.places)
-        departures = self.base.looker.departures.part(places, len(self.net.end_names))
-        return Part(net, departures, of_splits(net, self.base.splits, spans), spans)
+        return Plan(self.net, self.places, self.base.splits, spans).part()
 
     def rows(self, part: Part, weights: Whole) -> dict[Pair, PairRows]:
         """The rows of pairs whose weights are others than those of the case while the road is closed: before and behind
@@ -199,7 +198,7 @@ class Closed:
 
     def tell(self, rows: dict[Pair, PairRows]) -> tuple[Counts, tuple[int, int]]:
         """The loading with these rows in place of the case's."""
-        self.engine.tell({**self.base.all, **rows})
+        self.engine.tell(RowShares({**self.base.all, **rows}))
         return self.engine.counts(), self.engine.spent()
 
 

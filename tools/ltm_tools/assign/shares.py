@@ -6,16 +6,62 @@ a case: one where the weights change.
 from __future__ import annotations
 
 from collections.abc import Iterable, Mapping, Sequence
+from dataclasses import dataclass
+from typing import Protocol
 
 import numpy
 
 from ..case import Split
+from ..case.writing import split_line
 from ..errors import Fault
+from ..formats import weights_or_none
 from .net import FAR, WHOLE, Net, Real, Whole
 from .spans import Spans
 
 Pair = tuple[str, str]  # a node and a destination
 PairRows = list[tuple[int, dict[str, int]]]  # the first slot of each row, and its weights
+
+
+class Shares(Protocol):
+    """Split rows, as engines are told them."""
+
+    def rows(self) -> dict[Pair, PairRows]:
+        """The rows of each pair."""
+
+    def lines(self) -> list[bytes]:
+        """The same as lines of `splits.csv` in the same order, in as many pieces as they are made in."""
+
+
+@dataclass(frozen=True)
+class RowShares:
+    """Shares that are kept as rows."""
+
+    of_pairs: dict[Pair, PairRows]
+
+    def rows(self) -> dict[Pair, PairRows]:
+        return self.of_pairs
+
+    def lines(self) -> list[bytes]:
+        return [lines_of(self.of_pairs)]
+
+
+@dataclass(frozen=True)
+class LineShares:
+    """Shares that are kept as lines, in a tenth of the memory."""
+
+    pieces: list[bytes]
+
+    def rows(self) -> dict[Pair, PairRows]:
+        found: dict[Pair, PairRows] = {}
+        for line in b"".join(self.pieces).decode().splitlines():
+            node, end, slot, text = line.split(",")
+            weights = weights_or_none(text)
+            assert weights is not None, "these are lines that have been written here"
+            found.setdefault((node, end), []).append((int(slot), weights))
+        return found
+
+    def lines(self) -> list[bytes]:
+        return self.pieces
 
 
 def rounded(net: Net, shares: Real) -> Whole:
@@ -76,19 +122,32 @@ def rows_of(net: Net, weights: Whole, starts: Sequence[int]) -> dict[Pair, PairR
     spans begin."""
     changes = numpy.ones((len(weights), *net.routed.shape), dtype=bool)
     changes[1:] = net.some_of(weights[1:] != weights[:-1])
+    ends, groups, spans = (changes & net.routed).transpose(2, 1, 0).nonzero()
+    columns = []
+    for start, stop in zip(net.layers, net.layers[1:]):
+        has = groups < stop - start
+        column = numpy.zeros(len(groups), dtype=weights.dtype)
+        column[has] = weights[spans[has], groups[has] + start, ends[has]]
+        columns.append(column.tolist())
+    names = [[net.names[link] for link in net.links_of(group)] for group in range(len(net.tails))]
+    nodes = [net.node_names[node] for node in net.tails.tolist()]
     found: dict[Pair, PairRows] = {}
-    links = [net.links_of(group) for group in range(len(net.tails))]
-    for end, group, span in numpy.argwhere((changes & net.routed).transpose(2, 1, 0)).tolist():
-        column = weights[span, links[group], end].tolist()
-        row = {net.names[link]: weight for link, weight in zip(links[group], column) if weight}
-        pair = net.node_names[net.tails[group]], net.end_names[end]
-        found.setdefault(pair, []).append((starts[span], row))
+    last, rows = (-1, -1), []
+    for end, group, span, *row in zip(ends.tolist(), groups.tolist(), spans.tolist(), *columns):
+        if (end, group) != last:
+            last, rows = (end, group), found.setdefault((nodes[group], net.end_names[end]), [])
+        rows.append((starts[span], {name: weight for name, weight in zip(names[group], row) if weight}))
     return found
 
 
 def split_rows(rows: dict[Pair, PairRows]) -> list[Split]:
     """The same as rows of a case."""
     return [Split(node, end, slot, weights) for (node, end), of_pair in rows.items() for slot, weights in of_pair]
+
+
+def lines_of(rows: dict[Pair, PairRows]) -> bytes:
+    """The same as lines of `splits.csv`."""
+    return "".join(f"{split_line(row)}\n" for row in split_rows(rows)).encode()
 
 
 def check_ways(net: Net) -> None:

@@ -8,7 +8,8 @@ from typing import NamedTuple
 
 import numpy
 
-from ..assign.engine import Counts, both_counts, shown_counts
+from ..assign.engine import Counts
+from ..assign.settling import both_counts, shown_counts
 from ..assign.net import Net, Truth, Whole
 from ..case import Case
 from ..counting.counts import Count, Timed

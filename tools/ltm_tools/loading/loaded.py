@@ -51,6 +51,14 @@ def loaded(folder: str, curves: str | None, named: str | None) -> LoadedCase:
     return LoadedCase(case, of_case(case, found))
 
 
+def loaded_by_destination(folder: str, curves: str | None, named: str | None) -> LoadedCase:
+    """The same for who asks for the curves of each destination, and so needs no sums beside them."""
+    if curves is not None:
+        return loaded(folder, curves, named)
+    case = Case.read(folder)
+    return LoadedCase(case, of_case(case, made(folder, named, case.setup.step_ms, case.setup.slots + 1)))
+
+
 def made_by_program(case: Case, folder: str, named: str | None) -> LoadedCase:
     """The case with the curves of its loading: as a session tells them, else as `ltm curves` writes them."""
 
