@@ -4,18 +4,26 @@ import csv
 import re
 import subprocess
 import unittest
+from collections.abc import Callable, Mapping, Sequence
+from dataclasses import replace
 from fractions import Fraction
+from unittest.mock import patch
 
 import commands
 from support import BUILT, FolderTest, needs, needs_program
+from ltm_tools.case import Case, Limit, Link, Setup
 from ltm_tools.demand.cycles import Green
 from ltm_tools.errors import Fault
 from ltm_tools.network.crossings.turn import Turn
 from ltm_tools.network.crossings.volumes import Volumes
+from ltm_tools.scenario.edits import NO_LIMIT
 from ltm_tools.sumo.net import Program
+from ltm_tools.timing.optimising import Wanted, searching, signalled
 from ltm_tools.timing.result import phases
+from ltm_tools.timing.search import Rules, Search
 from ltm_tools.timing.stages import Controller, Junction, Timing, junctions_of, offsets, splits
 from ltm_tools.timing.starts import by_flows, with_cycle
+from ltm_tools.timing.trying import Limits, Triers, lowered
 
 TURNS = (
     "approach,exit,link,vehicles,lanes,saturation,cycle,offset,greens,permitted,opposing,opposing_saturation,"
@@ -32,6 +40,19 @@ ROAD = {
     "signals": "link,from_slot,to_slot,vehicles\n"
     + "".join(f"{link},{slot + 30},{slot + 60},0\n" for link in ("ab", "bc") for slot in range(0, 360, 60)),
     "turns": TURNS + "a,b,ab,30,1,1800,60,0,0-30,,,,,\nb,c,bc,30,1,1800,60,0,0-30,,,,,\n",
+}
+# Two streams that cross at m, on ways of their own.
+CROSS = {
+    "setup": ROAD["setup"],
+    "links": "link,from,to,length_m,free_kmh,wave_kmh,jam_per_km\n"
+    "a,o,m,100,36,18,300\nab,m,n,100,36,18,150\nb,n,d,100,36,18,300\n"
+    "c,p,m,100,36,18,300\nce,m,q,100,36,18,150\ne,q,t,100,36,18,300\n",
+    "demand": "origin,destination,from_slot,to_slot,vehicles\no,d,0,180,36\np,t,0,180,36\n",
+    "splits": "node,destination,from_slot,weights\no,d,0,a=1\nm,d,0,ab=1\nn,d,0,b=1\n"
+    "p,t,0,c=1\nm,t,0,ce=1\nq,t,0,e=1\n",
+    "signals": "link,from_slot,to_slot,vehicles\n"
+    + "".join(f"ab,{slot + 30},{slot + 60},0\nce,{slot},{slot + 30},0\n" for slot in range(0, 360, 60)),
+    "turns": TURNS + "a,b,ab,36,1,1800,60,0,0-30,,,,,\nc,e,ce,36,1,1800,60,0,30-60,,,,,\n",
 }
 
 
@@ -124,6 +145,28 @@ class Starts(unittest.TestCase):
         self.assertIsNone(with_cycle(one, one.timing, 19_000, 5000))
 
 
+class Reserve(unittest.TestCase):
+    def test_stop_lines_that_let_less_through(self) -> None:
+        """A tenth less of 500 is 450; of a road that carries 1,000 and has no limit 900, and of one of 333 units 299.7,
+        rounded down. Red stays red."""
+        self.assertEqual(lowered([500, 0, NO_LIMIT], 1000, Fraction(1, 10)), [450, 0, 900])
+        self.assertEqual(lowered([333], 1000, Fraction(1, 10)), [299])
+
+    def test_limits_of_a_junction(self) -> None:
+        """The road of a turn carries a vehicle a second, and its stop line lets half of that through for 40 s of 90. In
+        reserve is a tenth, and a twentieth more where its worth is looked at."""
+        half = Green(90_000, 0, 40_000, 0, Fraction(1, 2))
+        one = junction(replace(turn("a"), protected=(half,)))
+        case = Case(Setup(1000, 90, 32_000), [Link("a", "m", "n", 100, 36, 18, 300), Link("b", "m", "n", 9, 9, 9, 9)])
+        for reserve, less, units in ((0, 0, 500), (10, 0, 450), (10, 5, 425)):
+            limits = Limits(case, [one], Volumes(600_000), Fraction(reserve, 100))
+            timing = replace(one.timing, less=Fraction(less, 100))
+            self.assertEqual(limits.of("n", timing)["a"], [units] * 40 + [0] * 50)
+            case.signals = [Limit("a", 0, 9, 1), Limit("b", 0, 9, 2)]  # of b, which is no turn, they stay
+            rows = [Limit("b", 0, 9, 2), Limit("a", 0, 40, units), Limit("a", 40, 90, 0)]
+            self.assertEqual(limits.judged(case, {"n": timing}).signals, rows)
+
+
 class Programs(unittest.TestCase):
     def test_phases_go_with_the_stages(self) -> None:
         """Vehicles go on yellow, so a stage is a green and its yellow, which stays as long as it is: the green has what
@@ -143,6 +186,96 @@ class Programs(unittest.TestCase):
         self.assertEqual((one.shift_ms, one.timing.lengths), (15_000, seconds(40, 20)))
         made = phases(one, Timing(15_000, seconds(30, 30)), program, 0)
         self.assertEqual(made, (50_000, [25_000, 30_000, 5000]))
+
+
+Costs = Callable[[Mapping[str, Timing]], int]
+
+
+class Told(Triers):
+    """Sessions of a case of which only the total travel time of each plan is known."""
+
+    def __init__(self, costs: Costs) -> None:
+        self.costs, self.tries = costs, 0
+
+    def spent(self, plans: "Sequence[Mapping[str, Timing]]") -> "list[int]":
+        self.tries += len(plans)
+        return [self.costs(plan) for plan in plans]
+
+
+class Searching(unittest.TestCase):
+    def search(self, costs: Costs, part: Fraction = Fraction(1, 20)) -> Search:
+        """A search among junctions A, B and C, whose offsets are 0 at first."""
+        one = junction(turn("a", (0, 40)), turn("b", (45, 85)))
+        some = [replace(one, name=name) for name in "ABC"]
+        plan = {other.name: other.timing for other in some}
+        return Search(some, plan, costs(plan), Told(costs), Rules(Volumes(600_000), 5000, part))
+
+    def moved(self, search: Search) -> str:
+        """The junctions whose plan has changed."""
+        return "".join(one.name for one in search.junctions if search.plan[one.name] != one.timing)
+
+    def later(self, plan: "Mapping[str, Timing]", seconds: int = 22) -> "set[str]":
+        """The junctions that begin so much later in a plan."""
+        return {name for name, timing in plan.items() if timing.offset_ms == seconds * 1000}
+
+    def test_those_of_most_worth_come_first(self) -> None:
+        worth = {"A": 1, "B": 30, "C": 2}
+        costs = lambda plan: 3000 + sum(worth[name] for name, timing in plan.items() if timing.less == Fraction(1, 20))
+        self.assertEqual([one.name for one in self.search(costs).by_worth()], ["B", "C", "A"])
+
+    def test_later_rounds_begin_where_most_was_saved(self) -> None:
+        gains = {"A": 60, "B": 300, "C": 120}
+        search = self.search(lambda plan: 3000 - sum(gains[name] for name in self.later(plan)))
+        with patch.object(search, "near", wraps=search.near) as near:
+            list(search.run(2))
+        self.assertEqual([one.args[0].name for one in near.call_args_list if one.args[1] == 2], ["B", "C", "A"])
+
+    def test_small_savings_are_no_reason(self) -> None:
+        """Of 3,000 for three junctions a twentieth is 50: 50 are not enough, 51 are."""
+        gains = {"A": 50, "B": 51}
+        search = self.search(lambda plan: 3000 - sum(gains.get(name, 0) for name in self.later(plan)))
+        [one] = search.run(1)
+        self.assertEqual((one.spent, one.changed, self.moved(search)), (2949, 1, "B"))
+
+    def test_what_saves_alone_and_not_with_another(self) -> None:
+        """A and B each save, and both together nothing; so B, which comes behind, keeps its plan. C goes well with
+        A."""
+        costs = {"": 3000, "A": 2700, "B": 2800, "C": 2900, "AB": 3000, "AC": 2600}
+        search = self.search(lambda plan: costs.get("".join(sorted(self.later(plan))), 4000))
+        [one] = search.run(1)
+        self.assertEqual((one.spent, one.changed, self.moved(search)), (2600, 2, "AC"))
+
+    def test_green_by_flows_is_tried_at_first(self) -> None:
+        """No step from a plan saves, but the green that fits the flows does."""
+        wanted = seconds(57, 5, 23, 5)
+        search = self.search(lambda plan: 3000 - 900 * (plan["B"].lengths == wanted))
+        volumes = Volumes(600_000, {"a": {0: 90_000}, "b": {0: 30_000}})
+        search.rules = replace(search.rules, volumes=volumes)
+        [one, _] = search.run(2)
+        self.assertEqual((one.spent, search.plan["B"].lengths), (2100, wanted))
+        self.assertEqual(
+            search.near(search.junctions[0], 2),
+            [*offsets(search.plan["A"], 8), *splits(search.plan["A"], [0, 2], 20, 5000)],
+        )
+
+    def test_green_by_flows_comes_before_steps(self) -> None:
+        """A step from the plan as it is would save 10 more, which is not enough to be taken in its place."""
+        saves = {seconds(57, 5, 23, 5): 300, seconds(47, 5, 33, 5): 310}
+        search = self.search(lambda plan: 3000 - saves.get(plan["B"].lengths, 0))
+        search.rules = replace(search.rules, volumes=Volumes(600_000, {"a": {0: 90_000}, "b": {0: 30_000}}))
+        [one] = search.run(1)
+        self.assertEqual((one.spent, one.changed, search.plan["B"].lengths), (2700, 1, seconds(57, 5, 23, 5)))
+
+
+def interrupted(*_: object) -> "dict[str, int]":
+    """What is called when Ctrl-C is pressed."""
+    raise KeyboardInterrupt
+
+
+def reds(case: Case) -> "set[tuple[str, int]]":
+    """The links of a case at which nobody may leave in a slot, with the slot."""
+    rows = [limit for limit in case.signals if not limit.units]
+    return {(row.link, slot) for row in rows for slot in range(row.from_slot, row.to_slot)}
 
 
 @needs_program
@@ -168,18 +301,79 @@ class ARoad(FolderTest):
         self.assertNotIn("bc", after)
         self.assertEqual(after["ab"], before["ab"])
 
+    def test_what_is_held_in_reserve(self) -> None:
+        """Vehicles come to the stop line from 20 to 200 s, 0.2 a second. Of the 6 that stand there after 30 s of red
+        the last has left 20 s later where 0.5 a second pass, and 30 s later where a fifth less do: 150 and 180 vehicle
+        seconds. After the third red, at 180 s, it is 150 again, or 90, 80 until nobody comes any more, and 5 for the
+        last 2."""
+        links = ROAD["links"].splitlines(keepends=True)
+        road = {
+            **ROAD,
+            "links": "".join(line for line in links if line[:2] not in ("bc", "c,")).replace("b,n,p,", "b,n,d,"),
+            "demand": "origin,destination,from_slot,to_slot,vehicles\no,d,0,180,36\n",
+            "splits": "node,destination,from_slot,weights\no,d,0,a=1\nm,d,0,ab=1\nn,d,0,b=1\n",
+            "turns": "".join(ROAD["turns"].splitlines(keepends=True)[:2]),
+            "signals": "".join(line for line in ROAD["signals"].splitlines(keepends=True) if line[:2] != "bc"),
+        }
+        found = signalled(str(self.case(**road)), BUILT)
+        spent = []
+        for reserve in (Fraction(0), Fraction(1, 5)):
+            with searching(found, Wanted(reserve=reserve), BUILT, 1) as (search, judged):
+                self.assertEqual(search.spent, judged)
+                spent.append(judged)
+        self.assertEqual(spent[0], found.spent)
+        self.assertEqual(spent[1] - spent[0], (180 + 180 + 175 - 3 * 150) * 1000 * 1000)
+
     def test_rounds_only_gain(self) -> None:
         """Each round tells what is left, never more than the one before; what is told last is what the case takes that
         was written, and the plan of the second signal alone may change."""
-        status, out, err = self.optimise("--rounds", "3", "--keep", "m", "--sessions", "2")
+        status, out, err = self.optimise("--rounds", "3", "--keep", "m", "--sessions", "2", "--reserve", "50")
         self.assertEqual((status, err), (0, ""))
         lines = out.splitlines()
         left = [float(line.split()[2]) for line in lines if line.startswith("round ")]
         self.assertEqual(left, sorted(left, reverse=True))
         self.assertEqual(len(left), 3)
-        told = commands.run("flows", str(self.folder / "out"), "--program", str(BUILT))  # the case is one
-        self.assertEqual(told[0], 0)
+        told = subprocess.run([str(BUILT), "delay"], cwd=self.folder / "out", capture_output=True, text=True).stdout
+        spent = float(told.split()[3]) / 3600
+        self.assertEqual(lines[-1].split(" vehicle hours")[0], f"{spent:.2f}")
+        self.assertGreater(left[-1], spent + 0.01)
         self.assertIn("ab,60,0,30,0\n", (self.folder / "out" / "cycles.csv").read_text())
+
+    def test_a_common_cycle(self) -> None:
+        """Where two streams have half of the cycle each, reds of 15 s keep vehicles half as long as those of 30 s. In 9
+        s there is no room for two greens of 5 s, and 300 s are worse."""
+        case = self.case(**CROSS)
+        words = ("--optimise", "-o", str(self.folder / "out"), "--program", str(BUILT), "--rounds", "0")
+        status, out, err = commands.run("signals", str(case), *words, "--cycle", "9", "300", "30")
+        self.assertEqual((status, err), (0, ""))
+        with open(self.folder / "out" / "cycles.csv", encoding="utf-8") as file:
+            rows = [tuple(row.values()) for row in csv.DictReader(file)]
+        self.assertEqual(rows, [("ab", "30", "0", "15", "0"), ("ce", "30", "15", "30", "0")])
+
+    def test_an_interrupt_keeps_the_best(self) -> None:
+        """What the first round has found is written whole, though the second one ends in the middle."""
+        first = self.optimise("--rounds", "1")[1].splitlines()
+        wanted, improve = (self.folder / "out" / "cycles.csv").read_text(), Search.improve
+        with patch.object(Search, "improve", autospec=True) as tried:
+            calls = iter((improve, improve))  # with green times by the flows, and with steps
+            tried.side_effect = lambda *words: next(calls, interrupted)(*words)
+            status, out, err = self.optimise("--rounds", "3")
+        self.assertEqual((status, err), (0, ""))
+        self.assertEqual([line for line in out.splitlines() if not line.startswith("stopped")], first)
+        self.assertIn("\nstopped: the best so far is kept\n", out)
+        self.assertEqual((self.folder / "out" / "cycles.csv").read_text(), wanted)
+
+    def test_the_table_of_plans(self) -> None:
+        """`signals --cycles` makes the same limits of it; and any number of sessions finds the same."""
+        self.assertEqual(self.optimise("--sessions", "1")[0], 0)
+        out, made = self.folder / "out", self.folder / "made"
+        files = {path.name: path.read_bytes() for path in out.iterdir()}
+        self.assertNotEqual(files["signals.csv"], (self.folder / "case" / "signals.csv").read_bytes())
+        self.case(**ROAD).rename(made)
+        self.assertEqual(commands.run("signals", str(made), "--cycles", str(out / "cycles.csv"))[0], 0)
+        self.assertEqual(reds(Case.read(made)), reds(Case.read(out)))
+        self.assertEqual(self.optimise("--sessions", "3")[0], 0)
+        self.assertEqual({path.name: path.read_bytes() for path in out.iterdir()}, files)
 
     def test_what_is_refused(self) -> None:
         case = str(self.case(**ROAD))
@@ -188,6 +382,7 @@ class ARoad(FolderTest):
             (("-o", str(self.folder / "out"), "--keep", "x"), "no junction with signals is called x"),
             (("-o", str(self.folder / "out"), "--wave", "x", "y"), "y, on the path of a green wave, is no link"),
             (("-o", str(self.folder / "out"), "--sessions", "0"), "0 is no number of sessions"),
+            (("-o", str(self.folder / "out"), "--reserve", "51"), "51 is no reserve in per cent, from 0 to 50"),
         ):
             status, _, err = commands.run("signals", case, "--optimise", "--program", str(BUILT), *words)
             self.assertEqual((status, err.count("\n")), (1, 1))

@@ -4,53 +4,56 @@ from __future__ import annotations
 
 import os
 import tempfile
-from collections.abc import Iterator, Mapping, Sequence
+from collections.abc import Callable, Iterator, Mapping, Sequence
 from contextlib import contextmanager
 from dataclasses import dataclass
+from fractions import Fraction
 
 from ..case import Case
 from ..case.roads import Roads
 from ..case.source import Source
 from ..errors import Fault
 from ..formats import MINUTE_MS
-from ..loading.curves import Curves
-from ..loading.delay import report
-from ..loading.loaded import loaded
 from ..network.crossings.options import CrossingOptions
 from ..network.crossings.recount import by_volumes
 from ..network.crossings.turn import Turn
 from ..network.crossings.turns_file import read_turns
 from ..network.crossings.volumes import Volumes
-from .search import Search
+from ..scenario.open import OpenCase
+from .search import LEAST_PART, Rules, Search
 from .stages import Controller, Junction, Timing, junctions_of
 from .starts import by_flows, wave, with_cycle
 from .trying import Limits, Plan, Trier, Triers
 
 SLICE_MS = CrossingOptions.slice_minutes * MINUTE_MS
+RESERVE = Fraction(1, 10)
+"""Plans are judged with stop lines that let so much less through, so that a plan that just suffices is none."""
 
 
 @dataclass(frozen=True)
 class Wanted:
-    """What is asked of a search: the least green in ms, the junctions that keep their plan, common cycles in ms to
-    try, and paths that are to have a green wave."""
+    """What is asked of a search: the least green in ms, what a change of a junction has to save as a part of the total
+    travel time over the number of junctions, the junctions that keep their plan, common cycles in ms to try, paths
+    that are to have a green wave, and which part of what stop lines let through is held in reserve."""
 
     least_ms: int = 5000
+    least_part: Fraction = LEAST_PART
     keep: Sequence[str] = ()
     cycles: Sequence[int] = ()
     waves: Sequence[Sequence[str]] = ()
+    reserve: Fraction = RESERVE
 
 
 @dataclass(frozen=True)
 class Signalled:
-    """A case with the turns of its crossings: its junctions, what a loading has of vehicles by link, and the delay
-    of each junction in it; and its total travel time as its files are."""
+    """A case with the turns of its crossings: its junctions, what its loading has of vehicles by link, and its total
+    travel time."""
 
     case: Case
     source: Source
     turns: Sequence[Turn]
     junctions: Sequence[Junction]
     volumes: Volumes
-    delays: Mapping[str, int]
     spent: int
 
     @property
@@ -64,7 +67,6 @@ def signalled(
 ) -> Signalled:
     """The signals of a case and what its loading says of them; a Fault where it has none by turn. Controllers are those
     of approaches, by their names in the source."""
-    found = loaded(folder, None, None if program is None else str(program))
     case = Case.read(folder)
     roads = Roads.of(case.links)
     source, turns = Source.read(folder, roads), read_turns(folder, roads.links)
@@ -72,10 +74,10 @@ def signalled(
     junctions = named_apart(junctions_of(turns, heads, controllers))
     if not junctions:
         raise Fault(f"{folder}: turns.csv has no turn with a signal, so that there is no plan to improve")
-    told = report(found.curves, case)
-    own = {one.name: [turn.link for turn in one.turns] for one in junctions}
-    delays = {name: sum(told.links[link].queued for link in links) for name, links in own.items()}
-    return Signalled(case, source, turns, junctions, volumes_of(found.curves, case), delays, told.spent)
+    with OpenCase(folder, program) as session_of:
+        spent = session_of.session.delay().spent
+        volumes = volumes_of(lambda slot: session_of.session.state(slot).left, case)
+    return Signalled(case, source, turns, junctions, volumes, spent)
 
 
 def named_apart(junctions: Sequence[Junction]) -> list[Junction]:
@@ -89,25 +91,26 @@ def named_apart(junctions: Sequence[Junction]) -> list[Junction]:
     return found
 
 
-def volumes_of(curves: Curves, case: Case) -> Volumes:
-    """The vehicles that leave each link in each slice of a loading."""
+def volumes_of(left_by: Callable[[int], Mapping[str, int]], case: Case) -> Volumes:
+    """The vehicles that leave each link in each slice of a loading, by what has left each by a boundary."""
     made, step, slots = Volumes(SLICE_MS), case.setup.step_ms, case.setup.slots
     ends = [min(-(-time // step), slots) for time in range(0, slots * step + SLICE_MS, SLICE_MS)]
-    for link in case.links:
-        left = curves.down(link.name)
-        for number, (first, end) in enumerate(zip(ends, ends[1:])):
-            if units := int(left[end] - left[first]):
+    left = left_by(0)
+    for number, end in enumerate(ends[1:]):
+        before, left = left, left_by(end)
+        for link in case.links:
+            if units := left[link.name] - before[link.name]:
                 made.counts.setdefault(link.name, {})[number] = units
                 made.slices = max(made.slices, number + 1)
     return made
 
 
 def starts(found: Signalled, wanted: Wanted) -> list[Plan]:
-    """The plans to begin with: that of the files, that by the flows, both with each of the cycles, and all of them
-    with the waves."""
+    """The plans to begin with: that of the files; with each of the cycles that, and the one by the flows; and all of
+    them with the waves."""
     free = [one for one in found.junctions if one.name not in wanted.keep]
     flows = {**found.plan, **{one.name: by_flows(one, found.volumes, wanted.least_ms) for one in free}}
-    plans: list[Plan] = [found.plan, flows]
+    plans: list[Plan] = [found.plan]
     for cycle in wanted.cycles:
         for plan in (found.plan, flows):
             timed = {one.name: with_cycle(one, plan[one.name], cycle, wanted.least_ms) for one in free}
@@ -131,15 +134,17 @@ def waved(found: Signalled, plan: Plan, wanted: Wanted) -> Plan:
 def searching(
     found: Signalled, wanted: Wanted, program: str | os.PathLike[str] | None, sessions: int
 ) -> Iterator[tuple[Search, int]]:
-    """A search from the best of all plans to begin with, and the total travel time of the plan of the files."""
-    limits = Limits(found.case, found.junctions, found.volumes)
+    """A search from the best of all plans to begin with, and the total travel time of the plan of the files, both with
+    the reserve."""
+    limits = Limits(found.case, found.junctions, found.volumes, wanted.reserve)
     free = [one for one in found.junctions if one.name not in wanted.keep]
     with tempfile.TemporaryDirectory(prefix="ltm_signals_") as folder:
-        case = by_volumes(found.case, found.turns, found.volumes).case
+        case = limits.judged(by_volumes(found.case, found.turns, found.volumes).case, found.plan)
         case.setup.signals = True
         case.write(folder)
         with Triers(lambda: Trier(folder, program, limits, found.plan), sessions) as triers:
             plans = starts(found, wanted)
             times = triers.spent(plans)
             best = min(range(len(plans)), key=lambda place: (times[place], place))
-            yield Search(free, plans[best], times[best], triers, wanted.least_ms), times[0]
+            rules = Rules(found.volumes, wanted.least_ms, wanted.least_part)
+            yield Search(free, plans[best], times[best], triers, rules), times[0]

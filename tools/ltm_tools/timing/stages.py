@@ -9,6 +9,7 @@ from __future__ import annotations
 from bisect import bisect_right
 from collections.abc import Iterable, Iterator, Mapping, Sequence
 from dataclasses import dataclass, replace
+from fractions import Fraction
 from functools import cached_property
 from itertools import accumulate
 
@@ -21,10 +22,12 @@ SECOND = 1000
 
 @dataclass(frozen=True)
 class Timing:
-    """The offset of a cycle, and how long each of its stages lasts, in ms."""
+    """The offset of a cycle, and how long each of its stages lasts, in ms; and which part less its stop lines let
+    through, to see what that costs."""
 
     offset_ms: int
     lengths: tuple[int, ...]
+    less: Fraction = Fraction(0)
 
     @property
     def cycle_ms(self) -> int:

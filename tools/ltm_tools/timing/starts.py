@@ -11,11 +11,12 @@ from .stages import SECOND, Junction, Timing
 from .trying import Plan
 
 
-def by_flows(one: Junction, volumes: Volumes, least_ms: int) -> Timing:
-    """The green of a cycle shared by flow ratios, as Webster has it: each changeable stage by the turn that asks
-    for most of it, what it lets pass and the vehicles of its busiest time; a turn with green in several asks each
-    for an even part."""
-    stages, lengths = one.changeable(least_ms), list(one.timing.lengths)
+def by_flows(one: Junction, volumes: Volumes, least_ms: int, timing: Timing | None = None) -> Timing:
+    """The green of a cycle, its own or that of another timing, shared by flow ratios, as Webster has it: each
+    changeable stage by the turn that asks for most of it, what it lets pass and the vehicles of its busiest time; a
+    turn with green in several asks each for an even part."""
+    timing = one.timing if timing is None else timing
+    stages, lengths = one.changeable(least_ms), timing.lengths
     busy, ratios = volumes.busy(), dict.fromkeys(stages, Fraction(0))
     for turn in one.turns:
         own = [stage for stage in stages if has_green(one, turn, stage)]
@@ -24,7 +25,7 @@ def by_flows(one: Junction, volumes: Volumes, least_ms: int) -> Timing:
             vehicles = Fraction(busy.whole(turn.link) * 3600, busy.slice_ms)  # an hour
             for stage in own:
                 ratios[stage] = max(ratios[stage], vehicles / passing / len(own))
-    return with_greens(one.timing, shared(sum(lengths[stage] for stage in stages), ratios, least_ms))
+    return with_greens(timing, shared(sum(lengths[stage] for stage in stages), ratios, least_ms))
 
 
 def has_green(one: Junction, turn: Turn, stage: int) -> bool:

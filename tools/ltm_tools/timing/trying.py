@@ -6,13 +6,14 @@ import os
 import queue
 from collections.abc import Callable, Iterable, Mapping, Sequence
 from concurrent.futures import ThreadPoolExecutor
+from fractions import Fraction
 from types import TracebackType
 
-from ..case import Case
+from ..case import Case, Limit
 from ..network.crossings.limits import turn_limits
 from ..network.crossings.volumes import Volumes
 from ..scenario.batches import in_batches
-from ..scenario.edits import Edit, Exit, by_slot, runs
+from ..scenario.edits import NO_LIMIT, Edit, Exit, by_slot, runs
 from ..scenario.open import OpenCase
 from ..sweep.here import close_all
 from .stages import Junction, Timing
@@ -22,10 +23,13 @@ Plan = Mapping[str, Timing]
 
 
 class Limits:
-    """The exit limits that timings make, of each link slot by slot."""
+    """The exit limits that timings make, of each link slot by slot, with a part less than stop lines let through where
+    one is held in reserve."""
 
-    def __init__(self, case: Case, junctions: Iterable[Junction], volumes: Volumes) -> None:
-        self.setup, self.volumes = case.setup, volumes
+    def __init__(
+        self, case: Case, junctions: Iterable[Junction], volumes: Volumes, reserve: Fraction = Fraction(0)
+    ) -> None:
+        self.setup, self.volumes, self.reserve = case.setup, volumes, reserve
         self.links = {link.name: link for link in case.links}
         self.junctions = {one.name: one for one in junctions}
         self.known: dict[tuple[str, Timing], dict[str, list[int]]] = {}
@@ -38,9 +42,25 @@ class Limits:
                 self.known.clear()
             turns = self.junctions[name].turns_by(timing)
             rows = turn_limits(turns, self.volumes, self.links, self.setup)
-            own = {turn.link: [row for row in rows if row.link == turn.link] for turn in turns}
-            self.known[key] = {link: by_slot(of, 0, self.setup.slots) for link, of in own.items()}
+            own: dict[str, list[Limit]] = {turn.link: [] for turn in turns}
+            for row in rows:
+                own[row.link].append(row)
+            limits = {link: by_slot(of, 0, self.setup.slots) for link, of in own.items()}
+            if less := self.reserve + timing.less:
+                step_ms = self.setup.step_ms
+                limits = {link: lowered(of, self.links[link].capacity(step_ms), less) for link, of in limits.items()}
+            self.known[key] = limits
         return self.known[key]
+
+    def judged(self, case: Case, plan: Plan) -> Case:
+        """A case whose turns have the limits of a plan; it is changed itself."""
+        own = {turn.link for one in self.junctions.values() for turn in one.turns}
+        case.signals = [limit for limit in case.signals if limit.link not in own]
+        for name, timing in plan.items():
+            for link, limits in self.of(name, timing).items():
+                rows = (Limit(link, *row) for row in runs(limits, 0))
+                case.signals += [row for row in rows if row.units < NO_LIMIT]
+        return case
 
     def edits(self, before: Plan, after: Plan) -> list[Edit]:
         """The edits that bring one plan to another."""
@@ -51,6 +71,12 @@ class Limits:
                 for link, wanted in self.of(name, timing).items():
                     made += changes(link, had[link], wanted)
         return made
+
+
+def lowered(limits: Iterable[int], road: int, part: Fraction) -> list[int]:
+    """What a link lets through in each slot, by limits and by what its road carries, less such a part, rounded down."""
+    kept = 1 - part
+    return [min(units, road) * kept.numerator // kept.denominator for units in limits]
 
 
 def changes(link: str, had: Sequence[int], wanted: Sequence[int]) -> list[Edit]:
