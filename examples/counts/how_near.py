@@ -53,7 +53,7 @@ def imported(name: str, folder: Path, more: Sequence[str] = ()) -> Path:
     folder.mkdir(parents=True, exist_ok=True)
     raw = NETWORKS[name](folder)
     files = [raw.net, *raw.files, carried(raw, folder, net_of(raw)), case]
-    words = [sys.executable, TOOLS / "ltm-tools", "from-sumo", *files, *raw.words, *more]
+    words = [sys.executable, TOOLS / "ltm-tools", "from-sumo", *files, *raw.words, "--ends", "node", *more]
     subprocess.run([*map(str, words)], check=True, stdout=subprocess.DEVNULL)
     return case
 

@@ -17,6 +17,7 @@ import tempfile
 from dataclasses import dataclass, field
 from fractions import Fraction
 from pathlib import Path
+from math import isnan, nan
 from statistics import correlation
 
 sys.dont_write_bytecode = True
@@ -170,9 +171,15 @@ def by_label(report: Report, run: Run, source: Source, net: SumoNet) -> tuple[di
 
 
 def likeness(ours: dict[str, Fraction], theirs: dict[str, Fraction]) -> float:
-    """The correlation of delay by edge."""
+    """The correlation of delay by edge; no number where one side has the same delay everywhere, as none."""
     names = sorted({*ours, *theirs})
-    return correlation(*([float(side.get(name, 0)) for name in names] for side in (ours, theirs)))
+    both = [[float(side.get(name, 0)) for name in names] for side in (ours, theirs)]
+    return correlation(*both) if all(len(set(side)) > 1 for side in both) else nan
+
+
+def likeness_text(found: float) -> str:
+    """A correlation, or a dash where there is no number."""
+    return "-" if isnan(found) else f"{found:.3f}"
 
 
 def hours(seconds: Fraction | int) -> float:
@@ -283,7 +290,7 @@ def compare(args: argparse.Namespace) -> None:
         *arrivals_table(case, arrived, run, quarter_before(run.first_ms)),
         "",
         *links_table(ours, theirs),
-        f"correlation of delay by edge: {likeness(ours, theirs):.3f}",
+        f"correlation of delay by edge: {likeness_text(likeness(ours, theirs))}",
         sep="\n",
     )
 

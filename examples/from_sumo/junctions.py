@@ -320,6 +320,12 @@ def row_text(kind: str, main: int, sides: Sequence[Side | None]) -> str:
 def main() -> int:
     parser = argparse.ArgumentParser(description=__doc__, formatter_class=argparse.RawDescriptionHelpFormatter)
     parser.add_argument("folder", type=Path)
+    parser.add_argument(
+        "--main",
+        default=",".join(map(str, MAIN)),
+        metavar="FLOWS",
+        help="vehicles an hour of the main road (%(default)s)",
+    )
     parser.add_argument("kinds", nargs="*", metavar="KIND", help=f"of {'; '.join(KINDS)} (all)")
     add_program_argument(parser)
     args = parser.parse_args()
@@ -334,7 +340,7 @@ def main() -> int:
         for kind in args.kinds or KINDS:
             folder = args.folder / kind.replace(", ", "_").replace(" ", "_")
             net = make_net(kind, folder)
-            for flow in MAIN:
+            for flow in map(int, args.main.split(",")):
                 sides = [by_sumo(kind, flow, net, folder), by_manual(kind, flow)]
                 sides += [by_ltm(kind, flow, net, folder, words, args.program) for words in WORDS.values()]
                 print(row_text(kind, flow, sides), flush=True)

@@ -1,10 +1,10 @@
 #!/usr/bin/env python3
-"""Makes a raw network of real size with vehicles on it, by SUMO's own generator: `make.py town FOLDER` or `make.py
-region FOLDER`.
+"""Makes a raw network of real size with vehicles on it, by SUMO's own generator: `make.py NAME FOLDER`.
 
     town     a grid of 7 by 7 crossings with fixed-time signals, each with an offset of its own: 224 links, half an hour
              of vehicles to 24 places at its rim
     region   a network of random roads without signals: some 2,000 links, a quarter of an hour of vehicles to 12 places
+    web      6 rings around a place that 9 roads lead to, without signals: half an hour of vehicles to 12 places
 
 --share 0.1 keeps a tenth of the vehicles, so that nobody holds up another. It needs Debian's package sumo (netgenerate,
 duarouter). The same words make the same vehicles, and with the same release of SUMO the same network and routes.
@@ -50,11 +50,23 @@ NETS = {
         "--seed",
         "11",
     ],
+    "web": [
+        "--spider",
+        "--spider.arm-number",
+        "9",
+        "--spider.circle-number",
+        "6",
+        "--spider.space-radius",
+        "200",
+        "--default-junction-type",
+        "priority",
+        "--no-turnarounds",
+    ],
 }
-MINUTES = {"town": 30, "region": 15}
-VEHICLES = {"town": 4500, "region": 4500}
-PLACES = {"town": 24, "region": 12}
-RIM = {"town": 28, "region": None}
+MINUTES = {"town": 30, "region": 15, "web": 30}
+VEHICLES = {"town": 4500, "region": 4500, "web": 2000}
+PLACES = {"town": 24, "region": 12, "web": 12}
+RIM = {"town": 28, "region": None, "web": None}
 
 
 def parse_args() -> argparse.Namespace:

@@ -1,13 +1,11 @@
 #!/usr/bin/env python3
 """Sets imports of real and made networks beside SUMO, one row each: `measure.py FOLDER [NETWORK ..]`.
 
-Each network is imported by `ltm-tools from-sumo` with the words that are given here and --words, and loaded. SUMO
-drives
-the same vehicles three times: mesoscopic as it comes, mesoscopic without its capacity drop, and microscopic. A row has
-the vehicle hours of all four, the most vehicles by which arrivals of `ltm` are ahead or behind, and the correlation of
+Each network is imported by `ltm-tools from-sumo` with a step, a horizon and --words, and loaded. SUMO drives the same
+vehicles three times: mesoscopic as it comes, mesoscopic without its capacity drop, and microscopic. A row has the
+vehicle hours of all four, the most vehicles by which arrivals of `ltm` are ahead or behind, and the correlation of
 delay by edge. FOLDER keeps the inputs and what SUMO said, so that a second run asks SUMO nothing. It needs SUMO
-(Debian's
-packages sumo and sumo-tools), and the program as other commands of ltm-tools do.
+(Debian's packages sumo and sumo-tools), and the program as other commands of ltm-tools do.
 """
 from __future__ import annotations
 
@@ -49,13 +47,14 @@ MINUTE_MS = 60_000
 
 @dataclass(frozen=True)
 class Raw:
-    """A network as it is given: its net, its vehicles, and the files of types and signal programs; and the words with
-    which it is imported."""
+    """A network as it is given: its net, its vehicles, and the files of types and signal programs; the words with
+    which it is imported, and those with which SUMO runs besides."""
 
     net: Path
     vehicles: tuple[Path, ...]
     files: tuple[Path, ...] = ()
     words: tuple[str, ...] = ("--fit", "2s", "--horizon", "150")
+    sumo: tuple[str, ...] = ()
 
 
 def bologna(name: str, *plans: str) -> Raw:
@@ -82,19 +81,22 @@ def made(name: str, folder: Path) -> Raw:
     if not routes.exists():
         subprocess.run([sys.executable, str(HERE / "make.py"), name, str(folder)], check=True)
     plans = (folder / "town.add.xml",) if name == "town" else ()
-    step = ("--fit", "5s", "--horizon", "75") if name == "town" else ("--fit", "5s", "--horizon", "75")
-    return Raw(net, (routes,), plans, step)
+    return Raw(net, (routes,), plans, ("--fit", "5s", "--horizon", "75"))
 
 
 def motorway() -> Raw:
-    """A motorway crossing near Berlin."""
+    """A motorway crossing near Berlin. Its signals are switched off: they are those of a game, in which each shows one
+    phase until a player chooses another, so that a third of the vehicles would never have green."""
     folder = SUMO_TOOLS / "game/A10KW"
-    return Raw(folder / "osm.net.xml", (folder / "osm.passenger.rou.xml", folder / "osm.truck.rou.xml"))
+    vehicles = (folder / "osm.passenger.rou.xml", folder / "osm.truck.rou.xml")
+    words = (*Raw.words, "--no-signals")
+    return Raw(folder / "osm.net.xml", vehicles, words=words, sumo=("--tls.all-off", "true"))
 
 
 NETWORKS = {
     "town": lambda folder: made("town", folder),
     "region": lambda folder: made("region", folder),
+    "web": lambda folder: made("web", folder),
     "acosta": lambda folder: bologna("acosta", "tls"),
     "pasubio": lambda folder: bologna("pasubio"),
     "bologna": lambda folder: bologna("joined", "tls"),
@@ -145,7 +147,8 @@ def sumo_run(raw: Raw, vehicles: Path, kind: str, folder: Path, net: SumoNet) ->
     kept = kept_file(folder, kind)
     if not kept.exists():
         with tempfile.TemporaryDirectory() as place:
-            compare.run_sumo(str(raw.net), [str(vehicles), *map(str, raw.files)], RUNS[kind], Path(place), kind=())
+            words = [*RUNS[kind], *raw.sumo]
+            compare.run_sumo(str(raw.net), [str(vehicles), *map(str, raw.files)], words, Path(place), kind=())
             run = compare.read_run(Path(place), net)
         kept.write_text(
             json.dumps(
@@ -189,7 +192,7 @@ class Beside:
         moved = f" ({self.moved} moved)" if self.moved else ""
         return (
             f"{self.hours:,.2f}{moved}, {self.more:+.1f} % | +{self.ahead:.1f} / -{self.behind:.1f} % |"
-            f" {self.likeness:.3f}"
+            f" {compare.likeness_text(self.likeness)}"
         )
 
 

@@ -150,6 +150,12 @@ RUNS = (
     Run("splits case --turns turns.csv", (*CASE[:3], "turns.csv"), ("case/splits.csv",)),
     Run("signals case --cycles greens.csv", (*CASE[:4], "greens.csv", *SOURCE), tuple(name for name in CASE)),
     Run("apply case script.jsonl made", (*CASE, "script.jsonl"), ("made",), ("program",)),
+    Run(
+        "cut case --box 11.56 48.135 11.6 48.2 -o made",
+        (*CASE, *SOURCE, *PLACES, "case/clock.txt"),
+        ("made",),
+        ("program",),
+    ),
     Run("compare case --script script.jsonl -o OUT", (*CASE, "script.jsonl", "case/clock.txt"), ("OUT",), ("program",)),
     Run(
         "sweep case scenarios.jsonl --delay --links p s -o OUT --sessions 1",

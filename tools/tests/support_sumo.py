@@ -49,7 +49,7 @@ WAYS = way("in", "on", 0) + way("in", "left#1", 1) + way("left#1", "home") + way
 class SumoTest(FolderTest):
     """Writes nets and vehicles, and makes cases of them."""
 
-    PLAIN: tuple[str, ...] = ("--entries", "none", "--saturation", "road", "--carry", "0")
+    PLAIN: tuple[str, ...] = ("--entries", "none", "--saturation", "road", "--carry", "0", "--ends", "node")
     """Words with which links are those of the net, and carry at their ends what they do between."""
 
     def make(

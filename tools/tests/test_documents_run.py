@@ -16,9 +16,9 @@ REASONS = {
     "it proves": 6,  # the kit's words, for up to an hour
     "it serves until it is ended": 2,  # the live map, which test_live and test_live_page drive
     "it needs several machines": 1,  # test_cluster has workers of its own
-    "it takes minutes": 13,  # SUMO of a town, or many iterations
+    "it takes minutes": 15,  # SUMO of a town, or many iterations
     "threads decide the order": 2,  # examples/run knows both
-    "it is a form": 8,  # of FORMATS, in which words in capitals stand for others
+    "it is a form": 9,  # of FORMATS, in which words in capitals stand for others
     "it is a part of a file": 4,  # that a reader writes, or a commit shows
 }
 """How many blocks stand for each reason: a block more is a decision, to be made here."""

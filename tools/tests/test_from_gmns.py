@@ -104,6 +104,25 @@ class Fields(GmnsTest):
         self.net(PLAIN, "node_id,x_coord,y_coord\n1,0,0\n2,1000,0\n3,2000,0\n", "o_zone_id,d_zone_id,volume\n1,3,60\n")
         self.assertEqual([(it.origin, it.destination, it.units) for it in self.made().demand], [("1", "3", 60000)])
 
+    def test_names_of_streets_are_kept(self) -> None:
+        rows = zip(PLAIN.splitlines(), ("name", '"Allee, oben"', ""))
+        self.net("".join(f"{row},{name}\n" for row, name in rows))
+        self.made()
+        self.assertEqual((self.folder / "case" / "street_names.csv").read_text(), 'link,street\na,"Allee, oben"\n')
+
+    def test_trips_that_begin_on_a_through_road_have_an_entry(self) -> None:
+        """From 2, over which others drive, as much comes in as b carries, or as many as set out, if these are more.
+        Nobody drives over 1."""
+        for volume in (60, 1500):
+            self.net(PLAIN, "node_id\n1\n2\n3\n", f"o_zone_id,d_zone_id,volume\n1,3,60\n2,3,{volume}\n")
+            case = self.made("--entries", "links", "--horizon", "90")
+            self.assertEqual({(it.origin, it.destination) for it in case.demand}, {("1", "3"), ("2_origin", "3")})
+            links = {it.name: it for it in case.links}
+            self.assertEqual((links["2_entry"].tail, links["2_entry"].head), ("2_origin", "2"))
+            carried = max(links["b"].capacity(3_600_000) / 1000, volume)
+            self.assertAlmostEqual(links["2_entry"].capacity(3_600_000) / 1000, carried, delta=carried / 10)
+        self.assertNotIn("2_entry", (self.folder / "case" / "source_links.csv").read_text())
+
     def test_utf_16_and_the_note_of_it(self) -> None:
         self.net(PLAIN, encoding="utf-16")
         status, out, _ = self.make()

@@ -238,7 +238,7 @@ class Vehicles(SumoTest):
         )
         self.assertEqual(self.rows(text), {("A", "D"): 1000 + 750, ("A", "C"): 1000 + 250})
         self.assertIn("1 vehicles are left out: of class bicycle\n", self.out)
-        self.assertIn("1 vehicles are left out: that wait for a person, a container or another vehicle\n", self.out)
+        self.assertIn("1 vehicles are left out: that wait for a person, a container or another vehicle", self.out)
 
     def test_alternatives_of_duarouter_count_by_the_last_one(self) -> None:
         text = (

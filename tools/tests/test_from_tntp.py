@@ -1,11 +1,13 @@
 """Cases of small networks in the format of the Transportation Networks collection, written by hand after its
 description: units, zones that no route leads through, trips, and each refusal says what to do."""
 import unittest
+from unittest import mock
 
 import commands
 from support import EXAMPLES, FolderTest
 
 from ltm_tools.case import Case
+from ltm_tools.network.reach import Reach
 
 VILLAGE = EXAMPLES / "from_tntp" / "village"
 HEAD = "~\tinit_node\tterm_node\tcapacity\tlength\tfree_flow_time\tb\tpower\tspeed\ttoll\tlink_type\t;"
@@ -131,6 +133,31 @@ class Zones(TntpTest):
         self.assertEqual({(it.origin, it.destination) for it in case.demand}, {("1", "2_end"), ("2", "1_end")})
         case = self.made("--length-unit", "km", zones="<NUMBER OF ZONES> 2\n<FIRST THRU NODE> 1\n")
         self.assertEqual({(it.origin, it.destination) for it in case.demand}, {("1", "2"), ("2", "1")})
+
+    def test_trips_that_begin_on_a_through_road_have_an_entry(self) -> None:
+        """Trips from 3, over which others drive from 1 to 4, come to it by a link that carries what 3_1 does."""
+        words = ("--length-unit", "km", "--horizon", "90")
+        text = {"trips": TRIPS + "Origin 3\n 2 : 40;\n", "zones": "<NUMBER OF ZONES> 3\n<FIRST THRU NODE> 1\n"}
+        case = self.made(*words, **text)
+        self.assertEqual(
+            {(it.origin, it.destination) for it in case.demand}, {("1", "2"), ("2", "1"), ("3_origin", "2")}
+        )
+        links = {it.name: it for it in case.links}
+        self.assertEqual((links["3_entry"].tail, links["3_entry"].head), ("3_origin", "3"))
+        self.assertAlmostEqual(links["3_entry"].capacity(3_600_000) / 1000, 1800, delta=60)
+        self.assertIn("1 origin at nodes that others drive over with a link of their own", self.out)
+        self.assertNotIn("3_entry", (self.folder / "case" / "source_links.csv").read_text())
+        case = self.made(*words, "--entries", "none", **text)
+        self.assertEqual({it.origin for it in case.demand}, {"1", "2", "3"})
+
+    def test_destinations_are_counted_before_ways_are_sought(self) -> None:
+        """A road of 258 nodes, from whose first one trips go to each other one."""
+        rows = tuple(f"{node} {node + 1} 1800 0.5 0.5" for node in range(1, 258))
+        trips = "Origin 1\n" + " ".join(f"{node} : 1;" for node in range(2, 259)) + "\n"
+        zones = "<NUMBER OF ZONES> 258\n<FIRST THRU NODE> 1\n"
+        with mock.patch.object(Reach, "__init__", side_effect=AssertionError("ways are sought")):
+            said = self.refused("--length-unit", "km", rows=rows, trips=trips, zones=zones)
+        self.assertIn("there are 257 destinations, and at most 256 may be: give --destinations", said)
 
     def test_trips_over_a_period_and_scaled(self) -> None:
         case = self.made("--length-unit", "km", "--period", "30", "--scale", "0.5")

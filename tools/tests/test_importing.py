@@ -1,4 +1,5 @@
 """Networks imported from Python: what is given, what is refused, and that each run gives the same."""
+import argparse
 import subprocess
 import sys
 import unittest
@@ -8,13 +9,16 @@ from pathlib import Path
 import commands
 from support import EXAMPLES, FolderTest, TOOLS
 from ltm_tools.case import Case, Demand, Link, Setup
+from ltm_tools.commands import from_gmns, from_sumo, from_tntp
 from ltm_tools.errors import Fault
 from ltm_tools.gmns.importing import GmnsOptions, import_gmns, steps_of_gmns
 from ltm_tools.network.importing import NotCarried, check_destinations, destinations_that_fit
 from ltm_tools.network.network import Network, Node, road_of
 from ltm_tools.network.bad_option import BadOption
+from ltm_tools.network.crossings.options import CrossingOptions
 from ltm_tools.sumo.importing import import_sumo
 from ltm_tools.sumo.options import SumoOptions
+from ltm_tools.tntp.importing import TntpOptions
 from support_sumo import SumoTest
 
 TOWN = EXAMPLES / "from_gmns" / "gmns"
@@ -160,7 +164,15 @@ class Sumo(SumoTest):
             self.folder / "net.net.xml",
             [self.folder / "routes.rou.xml"],
             SumoOptions(
-                begin_ms=0, horizon=10, fit=2000, headway=Fraction(2), signals=False, entries=False, carry=False
+                begin_ms=0,
+                horizon=10,
+                fit=2000,
+                headway=Fraction(2),
+                signals=False,
+                entries=False,
+                carry=False,
+                ends="node",
+                crossings=CrossingOptions(turns="none", saturation=None),
             ),
         )
         self.assertEqual((status, out), (0, "".join(line + "\n" for line in made.told)))
@@ -206,6 +218,20 @@ class EachRun(FolderTest):
         }
         self.assertEqual(len(runs), 1)
         self.assertIn(b"evened out", next(iter(runs)))
+
+
+class Defaults(unittest.TestCase):
+    def test_those_of_python_are_those_of_the_commands(self) -> None:
+        """What is asked for without any option, by a command and from Python."""
+        for module, words, options in (
+            (from_sumo, ("net", "case"), SumoOptions()),
+            (from_gmns, ("net", "case"), GmnsOptions()),
+            (from_tntp, ("net", "trips", "case"), TntpOptions()),
+        ):
+            with self.subTest(module.NAME):
+                parser = argparse.ArgumentParser()
+                module.add_arguments(parser)
+                self.assertEqual(module.options_of(parser.parse_args(words)), options)
 
 
 if __name__ == "__main__":

@@ -1,5 +1,6 @@
 """What an import loses: more than one vehicle in a hundred stops it, and turns that never let anybody pass are
 reported."""
+import shutil
 import unittest
 
 from support_sumo import SumoTest
@@ -14,7 +15,11 @@ class Vehicles(SumoTest):
         """99 vehicles come in; of 100 one is lost, of 101 two."""
         case = self.made(routes=GOOD + LOST.format(1))
         self.assertEqual(sum(row.units for row in case.demand), 99_000)
-        self.assertIn("1 vehicles are left out: over edges that are not in the net, or not for cars\n", self.out)
+        self.assertIn(
+            "1 vehicles are left out: over edges that are not in the net, or not for cars, 1 % of all (look at"
+            " --vehicle-class, or give routes over edges that cars may use)\n",
+            self.out,
+        )
 
     def test_more_stop_it_unless_a_word_allows_it(self) -> None:
         routes = GOOD + LOST.format(1) + LOST.format(2)
@@ -33,6 +38,12 @@ class Vehicles(SumoTest):
         self.made("--end", "90", routes=walker + GOOD)
         self.assertIn("9 vehicles are left out: that set out after --end\n", self.out)
 
+    def test_who_sets_out_past_the_horizon(self) -> None:
+        """Of 99, one each second, 60 set out within a minute."""
+        case = self.made("--horizon", "1", routes=GOOD)
+        self.assertEqual(sum(row.units for row in case.demand), 60_000)
+        self.assertIn("39 vehicles (39 % of all) set out past the horizon and are left out (give a longer", self.out)
+
     def test_none_that_is_left(self) -> None:
         """Trips between zones without the file of zones, and a begin behind all of them."""
         zones = '<trip id="1" depart="5" fromTaz="a" toTaz="b"/>'
@@ -45,11 +56,44 @@ class Vehicles(SumoTest):
         )
 
 
+RED = NET.replace("GgGr", "GrGr").replace("rGrr", "rrrr")  # the left turn, from nc to ce, never has green
+
+
 class Turns(SumoTest):
     def test_a_turn_without_any_green(self) -> None:
-        net = NET.replace("GgGr", "GrGr").replace("rGrr", "rrrr")
-        self.made(*WORDS, net=net, routes=ROUTES)
-        self.assertIn("1 turn without any green, before which 1 vehicles wait for ever: nc to ce 1; look at", self.out)
+        """One of 123 vehicles takes it, and one more of 124, which is more than one in a hundred."""
+        self.made(*WORDS, net=RED, routes=ROUTES)
+        self.assertIn(
+            "1 turn without any green, before which 1 vehicles (0.81 % of all) wait for ever: nc to ce 1; look at the"
+            " programs of their signals, or give the vehicles other routes\n",
+            self.out,
+        )
+        routes = ROUTES + '<vehicle id="x" depart="1"><route edges="nc ce"/></vehicle>'
+        self.assertIn(
+            "more than 1 % of the vehicles would never arrive: 1 turn without any green, before which 2 vehicles (1.6 %"
+            " of all) wait for ever: nc to ce 2; look at the programs of their signals, or give the vehicles other"
+            " routes; --allow-losses makes the case all the same\n",
+            self.refused_as_nothing_was(*WORDS, net=RED, routes=routes),
+        )
+        self.made(*WORDS, "--allow-losses", net=RED, routes=routes)
+        self.assertIn("before which 2 vehicles (1.6 % of all) wait", self.out)
+
+    def test_a_link_without_any_green(self) -> None:
+        """The same vehicle where a signal holds links as a whole: nobody from w gets through."""
+        net = NET.replace('state="rrrG"', 'state="rrrr"')
+        self.made(*WORDS, "--turns", "none", net=net, routes=ROUTES)
+        self.assertIn("1 link without any green, before which 1 vehicles (0.81 % of all) wait for ever: wc 1", self.out)
+
+    def test_who_takes_a_forbidden_turn(self) -> None:
+        """Two of 125 do, and these are too many."""
+        lost = "".join(f'<vehicle id="b{place}" depart="0"><route edges="wc cn"/></vehicle>' for place in (1, 2))
+        said = self.refused(*WORDS, net=NET, routes=ROUTES + lost)
+        self.assertIn("2 of 125 vehicles would be lost, more than 1 %: 2 (1.6 %) that take a turn which is", said)
+
+    def refused_as_nothing_was(self, *words: str, **files: str) -> str:
+        """What is said where an import is refused after one that was not: the case of that one is taken out first."""
+        shutil.rmtree(self.folder / "case")
+        return self.refused(*words, **files)
 
 
 if __name__ == "__main__":

@@ -5,16 +5,18 @@ import unittest
 from unittest import mock
 
 from made_live import needs_live
-from support import BUILT, CLONE, FolderTest, needs, needs_program, script
+from support import BUILT, CLONE, FolderTest, needs, needs_numpy, needs_program, script
 from ltm_tools.case import Case
 from ltm_tools.errors import Fault
-from measuring import page, panning, runs, speeds, tables
+from measuring import cities, page, panning, runs, speeds, tables
 from measuring.made import Made, closures
 from measuring.page import Section
 from measuring.room import Room
 from measuring.sections import SECTIONS
 
 measure = script("measure")
+HOLDS = "import time\nkept = b'x' * 40_000_000\nprint('held', flush=True)\ntime.sleep(1.5)"
+STARTS = f"import subprocess, sys\nsubprocess.run([sys.executable, '-c', {HOLDS!r}], check=True)"
 BURNS = "import time\nwhile time.process_time() < 0.3: pass\nprint('burnt')"
 TIME = re.compile(
     r"\d[\d.,]* (?:ms|s|seconds|minutes|microseconds) of processor time|\d ms each|"
@@ -42,6 +44,16 @@ class Costs(FolderTest):
         with self.assertRaisesRegex(Fault, "ended with status 3: no luck"):
             runs.cost_of([sys.executable, "-c", "import sys; print('no luck', file=sys.stderr); sys.exit(3)"])
 
+    def test_the_clock_and_the_memory_of_all_that_a_run_starts(self) -> None:
+        """The run itself holds little, and what it starts 40 MB for a second and a half."""
+        with mock.patch("sys.stderr"):
+            run = runs.watched([sys.executable, "-c", STARTS])
+        self.assertEqual(run.output, b"held\n")
+        self.assertTrue(1.5 <= run.clock and run.seconds < run.clock, run)
+        self.assertTrue(40 <= run.memory < 400, run)
+        with mock.patch("sys.stderr"), self.assertRaisesRegex(Fault, "ended with status 1"):
+            runs.watched([sys.executable, "-c", "import sys; sys.exit(1)"])
+
     def test_numbers(self) -> None:
         self.assertEqual([tables.figure(value) for value in (1234.5, 12.34, 1.234, 0.0123)],
                          ["1,234", "12.3", "1.23", "0.012"])  # fmt: skip
@@ -62,6 +74,25 @@ class Moving(FolderTest):
         self.assertTrue(0 < first <= there and server > 0 and program >= 0, cells)
         for rate, longest in zip(moves[::2], moves[1::2]):
             self.assertGreaterEqual(longest * rate, 995)  # 1,000 / rate is what a frame takes in the mean
+
+
+class Cities(FolderTest):
+    @needs_numpy
+    @needs_program
+    def test_a_small_city(self) -> None:
+        room = Room(self.folder, BUILT, None, 1000.0, 1)
+        with mock.patch.multiple(cities, CITY="small", PROCESSES=1), mock.patch("sys.stderr"):
+            table = cities.city(room)
+        ((sizes, vehicles, _, iterations, *costs),) = table.rows
+        self.assertEqual((sizes, iterations, len(costs)), ("76, 24, 1800", "1", 3))
+        self.assertAlmostEqual(int(vehicles.replace(",", "")), 16_000, delta=50)
+        self.assertRegex(table.remarks[0], r"^Relative gap by iteration, in per cent: 15\.78, [\d.]+\.$")
+
+    def test_gaps_of_what_assign_prints(self) -> None:
+        lines = ["76 links, 24 destinations, 30 periods of 5 minutes", "  hours relative gap  exact gap not arrived"]
+        lines += ["  0     1,120.69        15.78 %      16.00 %         0.000    3.000     0.17"]
+        lines += ["  1       350.95         0.28 %                      0.000    3.090     0.19  50 % of the demand"]
+        self.assertEqual(cities.gaps_of("\n".join(lines)), ["15.78", "(0.28)"])
 
 
 class Cases(FolderTest):

@@ -25,9 +25,10 @@ EXCEPT = {
     "208.13": "the town's hours by the default import, likewise",
     "608.10": "Bologna's, likewise",
     "710.21": "SUMO's hours of Bologna with the vehicles of a case, likewise",
-    "604.14": "the same without its drop",
+    "831.96": "the same, microscopic",
     "217.06": "what closing a road of the town costs, which the tutorial prints and a table of ASSIGN begins with",
     "50.007": "two roads of two examples have the same density",
+    "21.27": "by chance a relative gap of a city, and how far a fit is from its counts",
 }
 
 

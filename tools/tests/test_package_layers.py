@@ -19,7 +19,7 @@ LAYERS = (
     ("demand", "loading", "proving"),
     ("network", "scenario"),
     ("gmns", "sumo", "tntp", "show", "sweep"),
-    ("assign", "counting", "timing", "worth"),
+    ("assign", "counting", "cutting", "timing", "worth"),
     ("calibrate",),
     ("live",),
     ("commands",),

@@ -5,6 +5,7 @@ from fractions import Fraction
 from support import BUILT, FolderTest, needs_program
 from ltm_tools.case import Case, Demand, Limit, Link, Setup, Split
 from ltm_tools.case.flooring import pulse_lines
+from ltm_tools.case.inspect import inspect
 from ltm_tools.case.rounding import least_step, lossy_links, red_lines, rounding_lines, shortest_reds
 from ltm_tools.loading.delay import report
 from ltm_tools.loading.inspect import loading_lines
@@ -101,6 +102,18 @@ class Pulses(unittest.TestCase):
         case = road(1000, moves=True)
         case.demand.append(Demand("n1", "n2", 0, 1000, 1000))
         self.assertEqual(pulse_lines(case), [])
+
+
+class Inspected(FolderTest):
+    def test_what_inspect_tells(self) -> None:
+        """Reds of 6 steps, and two rows of demand that are alike: each has its line."""
+        case = road(1000, slots=602)
+        case.signals, case.setup.signals = [Limit("a", first, first + 6, 0) for first in range(4, 600, 20)], True
+        case.demand.append(Demand("n1", "n2", 0, 602, 1000))
+        case.write(self.folder / "road")
+        told = inspect(str(self.folder / "road"))
+        lines = [line.split()[0] for line in told if "17 % too much" in line or "2 rows of demand from n1 are" in line]
+        self.assertEqual(lines, ["pulses", "reds"])
 
 
 if __name__ == "__main__":

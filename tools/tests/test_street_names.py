@@ -40,6 +40,8 @@ class Kept(SumoTest):
         net = NAMED + edge("far", "C", "E", more='name="Allee"') + WAYS + way("on", "far")
         self.made("--fit", "60s", net=net, routes='<trip id="1" depart="0" from="in" to="far"/>')
         self.assertIn("Weg, oben / Allee", read_streets(self.folder / "case").values())
+        self.assertRegex(self.out, r"\n  merged .* most: (Allee \(far\), with on|Weg, oben \(on\), with far)\n")
+        self.assertRegex(self.out, r"used routes: .* \(Große Straße \(in\) to Allee \(far\), ")
         self.made("--fit", "1s", "--turns", "B", net=net, routes='<trip id="1" depart="0" from="in" to="far"/>')
         streets = read_streets(self.folder / "case")
         self.assertEqual(streets["in__on"], "Große Straße to Weg, oben")

@@ -140,15 +140,18 @@ class Turns(SumoTest):
 
     def test_vehicles_that_take_a_forbidden_turn_are_left_out(self) -> None:
         case = self.made(*WORDS, net=NET, routes=ROUTES + '<vehicle id="b" depart="0"><route edges="wc cn"/></vehicle>')
-        self.assertIn("1 vehicles take a turn that is forbidden, and are left out\n", self.out)
+        self.assertIn("1 vehicles are left out: that take a turn which is forbidden, 0.81 % of all (give", self.out)
         self.assertEqual(sum(row.units for row in case.demand), 123_000)
 
     def test_trips_that_end_at_the_crossing_do_not_wait(self) -> None:
         case = self.made(*WORDS, net=NET, routes=ROUTES + '<vehicle id="e" depart="0"><route edges="nc"/></vehicle>')
         stop = next(link for link in case.links if link.name == "nc_stop")
-        self.assertEqual((stop.tail, stop.head, stop.length_m), ("nc_A", "c", 98))
+        self.assertEqual((stop.tail, stop.head, stop.length_m), ("nc_A", "nc_end", 98))
         self.assertNotIn("nc_stop", {limit.link for limit in case.signals})
-        # as trips end at c, each way to it has such a link
+        self.assertEqual({link.name for link in case.links if link.name.endswith("_stop")}, {"nc_stop"})
+        # where trips end at c by whichever way, each way to it has such a link
+        ends = '<vehicle id="e" depart="0"><route edges="nc"/></vehicle>'
+        case = self.made(*WORDS, "--ends", "node", net=NET, routes=ROUTES + ends)
         self.assertEqual({link.name for link in case.links if link.head == "c"}, {"nc_stop", "sc_stop", "wc_stop"})
 
     def test_a_broken_program(self) -> None:

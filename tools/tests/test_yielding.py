@@ -36,9 +36,9 @@ def flows(main: int, side: int) -> str:
     )
 
 
-def gap_capacity(flow: float) -> float:
-    """The manual's formula by hand, of 6.5 and 3.5 s, in vehicles an hour."""
-    return flow * math.exp(-flow * 6.5 / 3600) / (1 - math.exp(-flow * 3.5 / 3600))
+def gap_capacity(flow: float, critical: float = 6.5) -> float:
+    """The manual's formula by hand, of a critical gap and 3.5 s, in vehicles an hour."""
+    return flow * math.exp(-flow * critical / 3600) / (1 - math.exp(-flow * 3.5 / 3600))
 
 
 class Formula(unittest.TestCase):
@@ -90,6 +90,20 @@ class Imports(SumoTest):
         units = {(row.from_slot, row.units) for row in self.loaded(600, 100).signals if 1200 <= row.from_slot < 1800}
         for _, passed in units:
             self.assertAlmostEqual(passed * 3.6, gap_capacity(600), delta=4)
+
+    def test_where_the_right_comes_first(self) -> None:
+        """A way that is equal to others waits for longer gaps than one at a sign; turns that are links too."""
+        net = NET.replace('state="m"', 'state="="')
+        self.made("--fit", "1s", "--begin", "0", net=net, routes=flows(600, 100))
+        rows = Case.read(self.folder / "case").signals
+        units = {row.units for row in rows if row.link == "side" and 1200 <= row.from_slot < 1800}
+        self.assertTrue(units)
+        for passed in units:
+            self.assertAlmostEqual(passed * 3.6, gap_capacity(600, 11.6), delta=4)
+        for words, gap in ((), "11.6 3.5 0"), (("--yielding", "none"), "6.5 3.5 0"):
+            self.made("--fit", "1s", "--begin", "0", "--turns", "c", *words, net=net, routes=flows(600, 100))
+            lines = (self.folder / "case" / "turns.csv").read_text().splitlines()
+            self.assertEqual({row.split(",")[12] for row in lines if row.startswith("side,")}, {gap})
 
     def test_the_wait_is_in_the_time(self) -> None:
         """To the 50 s on empty roads come 3600 / c s, what others add, and 5 s."""

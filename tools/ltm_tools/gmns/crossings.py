@@ -8,6 +8,7 @@ from pathlib import Path
 
 from ..case import Case, Demand
 from ..case.roads import Roads
+from ..demand.matrices import Amounts
 from ..demand.route_splits import Route
 from ..formats import MINUTE_MS, many
 from ..network.crossings.chosen import chosen
@@ -21,11 +22,13 @@ from ..network.crossings.turn import turns_of
 from ..network.crossings.turns_file import Turns
 from ..network.crossings.volumes import volumes_of
 from ..network.importing import Carried
-from ..network.options import Options
+from ..network.crossings.yielding import Yielding
+from ..network.od_case import OdOptions
 from ..network.steps import longest_step
 from .movements import all_turns, by_signs, lanes_of, read_movements
 from .net import Read
 from .signals import read_signals
+from .yielding import by_node_control, give_way
 
 
 @dataclass
@@ -38,20 +41,26 @@ class TurnedNetwork:
     capacities: dict[str, Fraction]
 
 
-def turn(folder: Path, read: Read, begins: set[str], ends: set[str], options: Options) -> TurnedNetwork | None:
+def turn(
+    folder: Path, read: Read, begins: set[str], ends: set[str], amounts: Amounts, options: OdOptions
+) -> tuple[TurnedNetwork | None, list[Yielding]]:
     """Makes links of the turns of the crossings that are asked for; none where there are none. Trips begin and end at
-    these nodes, and the zones of the network follow."""
+    these nodes, and the zones of the network follow. With the approaches of other crossings that yield."""
     network, asked = read.network, options.crossings
     told = read_movements(folder, read)
     held = by_signs(told, network, read.units.jam) | read_signals(folder, told, read)
-    turns = {pair: replace(one, held=held.get(pair)) for pair, one in all_turns(told, network).items()}
+    found = all_turns(told, network)
+    held = (by_node_control(read, found, held) if asked.yielding else {}) | held
+    turns = {pair: replace(one, held=held.get(pair)) for pair, one in found.items()}
     movements = Movements(turns, lanes_of(network, read.units.jam, turns))
-    wanted = chosen(network, movements, ends, asked.turns)
+    # without a table nobody says that a turn back is forbidden, and nodes stay as they are
+    wanted = chosen(network, movements, ends, asked.turns, begins=begins, apart=asked.apart and bool(told.turns))
     step = options.fit or options.step or min(longest_step(network), MINUTE_MS)
     picked = wanted if options.fit else cut_as_they_are(network, wanted, step)
     read.notes += whole_told(len(wanted.crossings) - len(picked.crossings))
+    yields = give_way(read, movements, picked.crossings, amounts, step, options)
     if not picked.crossings and not picked.parted:
-        return None
+        return None, yields
     capacities = {name: road.capacity for name, road in network.roads.items()}
     form = Form(step=step, length_m=asked.length_m, ends=ends, begins=begins, saturation=asked.saturation)
     made = expand(network, movements, picked, form)
@@ -60,8 +69,8 @@ def turn(folder: Path, read: Read, begins: set[str], ends: set[str], options: Op
         for zone, of in network.origins.items()
     }
     network.signals = {road for pair, road in made.links.items() if turns[pair].held is not None}
-    read.notes += crossings_told(made, 0)
-    return TurnedNetwork(movements, made, capacities)
+    read.notes += crossings_told(made)
+    return TurnedNetwork(movements, made, capacities), yields
 
 
 def turns_of_case(made: Carried, turned: TurnedNetwork, case: Case, asked: CrossingOptions, read: Read) -> Turns:
@@ -83,12 +92,13 @@ def turns_of_case(made: Carried, turned: TurnedNetwork, case: Case, asked: Cross
         asked.saturation,
         turned.expanded.uncut(),
     )
-    case.signals += turn_limits(turns, volumes, links, case.setup)
+    limits = turn_limits(turns, volumes, links, case.setup)
+    case.signals += limits
     case.setup.signals = bool(case.signals)
     read.notes += [
-        *([f"{many(len(case.signals), 'record')} of signals"] if case.signals else []),
+        *([f"{many(len(limits), 'record')} of signals"] if limits else []),
         *saturation_told(turns),
-        *turns_told(turns, volumes, links, case.setup, read.streets),
+        *turns_told(turns, volumes, links, case.setup, read.streets, sum(row.units for row in case.demand)),
     ]
     if any(one.permitted for one in turns):
         read.notes.append(

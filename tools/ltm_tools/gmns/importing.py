@@ -2,7 +2,7 @@
 from __future__ import annotations
 
 import os
-from dataclasses import dataclass
+from dataclasses import dataclass, field
 from fractions import Fraction
 from pathlib import Path
 from typing import Literal
@@ -13,18 +13,20 @@ from ..formats import MINUTE_MS, UNITS
 from ..network.changes import changes_told
 from ..network.crossings.sizes import links_told
 from ..network.crossings.sources import with_turns
+from ..network.crossings.yielding import Yielding, limit_yields
 from ..demand.matrices import Amounts, read_amounts
 from ..demand.values import whole_units
 from ..files import existing
-from ..network.entries import add_entries, entries_told, without
+from ..network.entries import without
 from ..network.imported import Imported
 from ..network.importing import NotCarried, carried, check_ends, destinations_that_fit, least_routes
 from ..network.network import Network
 from ..network.bad_option import BadOption
 from ..network.od_case import OdOptions, case_of, inner_told, departure_parts, size_told
+from ..network.od_entries import enter_zones
 from ..network.od_nodes import by_node, fewer_ends, pairs_of
 from ..network.placing import Map, places_of
-from ..network.steps import longest_step, steps_table
+from ..network.steps import steps_table
 from ..network.street_names import street_names
 from .crossings import TurnedNetwork, turn, turns_of_case
 from .net import Read, FieldUnits, file_of, read_gmns
@@ -65,6 +67,8 @@ class Asked:
     turned: TurnedNetwork | None = None
     entries: frozenset[str] = frozenset()
     """The links by which trips come to nodes that others drive over."""
+    yields: list[Yielding] = field(default_factory=list)
+    """The approaches of junctions without lights that yield as a whole."""
 
     @property
     def raw(self) -> Network:
@@ -89,6 +93,7 @@ def import_gmns(folder: str | os.PathLike[str], options: GmnsOptions = GmnsOptio
         raise
     parts, clock = departure_parts(options, made.step, read.notes)
     case, last = case_of(made, asked.volumes, options, parts)
+    limit_yields(case, made.source, asked.yields, options.crossings.slice_minutes)
     turns = None if asked.turned is None else turns_of_case(made, asked.turned, case, options.crossings, read)
     sizes = [*ask_for_sizes(case, options.moves), *fewer_turns(asked, len(case.links), False)]
     places, lost = places_of(made, Map(crs=read.units.crs or (DEGREES if read.units.places == "degrees" else None)))
@@ -98,7 +103,7 @@ def import_gmns(folder: str | os.PathLike[str], options: GmnsOptions = GmnsOptio
         *inner_told(asked.amounts.inner),
         *read.told(),
         *asked.amounts.notes,
-        *changes_told(made, routes),
+        *changes_told(made, routes, streets=read.streets),
         *lost,
         *sizes,
     ]
@@ -154,37 +159,14 @@ def read_all(folder: Path, options: GmnsOptions, turning: bool = False) -> Asked
     if options.destinations is None and not options.leave_out_unreached:
         most = destinations_that_fit(read.network, options.horizon * MINUTE_MS, options.fit or options.step)
         check_ends(pairs_of(read.network, amounts), most)  # before it is seen where ways lead
-    turned = turn(folder, read, *trip_ends(read.network, amounts), options) if turning else None
-    entries = enter(read, amounts, options) if options.entries else frozenset()
+    ends = trip_ends(read.network, amounts)
+    turned, yields = turn(folder, read, *ends, amounts, options) if turning else (None, [])
+    entries = enter_zones(read.network, amounts, options, read.notes) if options.entries else frozenset()
     volumes = by_node(read.network, amounts, options.leave_out_unreached, read.notes)
     if options.destinations is not None and volumes:
         volumes = fewer_ends(read.network, volumes, options.destinations, read.notes)
     read.network.ends = {node for ends in volumes for node in ends}
-    return Asked(read, amounts, volumes, turned, entries)
-
-
-def enter(read: Read, amounts: Amounts, options: GmnsOptions) -> frozenset[str]:
-    """Gives trips that begin at nodes that others drive over a link of their own, which carries as much as the greatest
-    road from there, or as they are, where they are more."""
-    network = read.network
-    trips: dict[str, Fraction] = {}
-    for (zone, _), volume in amounts.volumes.items():
-        for node, share in network.origins.get(zone, {}).items():
-            trips[node] = trips.get(node, Fraction(0)) + volume * share
-    begins = {}
-    for node, volume in trips.items():
-        if network.outs.get(node):
-            greatest = max((network.roads[name] for name in network.outs[node]), key=lambda road: road.capacity)
-            begins[node] = {greatest.name: max(greatest.capacity, volume * 60 / options.period)}
-    step = options.fit or options.step or min(longest_step(network), MINUTE_MS)
-    entries = add_entries(network, begins, step)
-    network.origins = {
-        zone: {network.roads[entries[node]].tail if node in entries else node: share for node, share in of.items()}
-        for zone, of in network.origins.items()
-    }
-    units = {entries[node]: int(volume * UNITS) for node, volume in trips.items() if node in entries}
-    read.notes += entries_told(network, entries.values(), units)
-    return frozenset(entries.values())
+    return Asked(read, amounts, volumes, turned, entries, yields)
 
 
 def trip_ends(network: Network, amounts: Amounts) -> tuple[set[str], set[str]]:

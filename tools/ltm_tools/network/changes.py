@@ -1,20 +1,30 @@
 """What an import changed, in lines."""
 from __future__ import annotations
 
-from collections.abc import Container, Iterable
+from collections.abc import Container, Iterable, Mapping
 from fractions import Fraction
 
+from ..case.streets import street_and_id
 from .fit import metres_text
 from .importing import Carried
 from .network import road_totals
 from .steps import longest_step, signed
 
+NO_STREETS: Mapping[str, str] = {}
+NODE_SPLIT = "node split"
+"""The kind of a change that is named by its node."""
 
-def changes_told(made: Carried, routes: Iterable[tuple[tuple[str, ...], int]], added: Container[str] = ()) -> list[str]:
+
+def changes_told(
+    made: Carried,
+    routes: Iterable[tuple[tuple[str, ...], int]],
+    added: Container[str] = (),
+    streets: Mapping[str, str] = NO_STREETS,
+) -> list[str]:
     """What was changed: the step and the network, the most used routes with it, and names. `added` are roads that the
-    source does not have."""
+    source does not have, `streets` the names of its streets."""
     told = (
-        [*changes_table(made, added), *routes_table(made, routes)]
+        [*changes_table(made, added, streets), *routes_table(made, routes, streets)]
         if made.fit is not None
         else [f"the longest step that changes nothing is {longest_step(made.raw)} ms"]
     )
@@ -22,7 +32,7 @@ def changes_told(made: Carried, routes: Iterable[tuple[tuple[str, ...], int]], a
     return told + ([f"{renamed} names are made, and stand in source_links.csv and source_nodes.csv"] if renamed else [])
 
 
-def changes_table(made: Carried, added: Container[str] = ()) -> list[str]:
+def changes_table(made: Carried, added: Container[str] = (), streets: Mapping[str, str] = NO_STREETS) -> list[str]:
     """What a fit changed: for each kind of change how many, how many metres and seconds, and the one that moves
     most."""
     if made.fit is None:
@@ -35,7 +45,7 @@ def changes_table(made: Carried, added: Container[str] = ()) -> list[str]:
         worst = max(some, key=lambda change: abs(change.metres))
         told.append(
             f"  {kind:<17}{len(some):>6}  {metres_text(Fraction(moved)):>9} m  {float(time) / 1000:>+9.1f} s "
-            f" most: {worst.name}, {worst.note}"
+            f" most: {worst.name if kind == NODE_SPLIT else street_and_id(worst.name, streets)}, {worst.note}"
         )
     if not kinds:
         told.append("  nothing")
@@ -51,7 +61,12 @@ def changes_table(made: Carried, added: Container[str] = ()) -> list[str]:
     return told
 
 
-def routes_table(made: Carried, routes: Iterable[tuple[tuple[str, ...], int]], count: int = 20) -> list[str]:
+def routes_table(
+    made: Carried,
+    routes: Iterable[tuple[tuple[str, ...], int]],
+    streets: Mapping[str, str] = NO_STREETS,
+    count: int = 20,
+) -> list[str]:
     """How the free-flow times of the most used routes, told by roads of the source and how many drive them, have
     moved."""
     most = sorted(routes, key=lambda item: (-item[1], item[0]))[:count]
@@ -67,5 +82,6 @@ def routes_table(made: Carried, routes: Iterable[tuple[tuple[str, ...], int]], c
     return [
         f"free-flow times of the {len(moved)} most used routes: {signed(mean)} in the mean, at worst"
         f" {signed(worst[0])}"
-        f" ({worst[1][0]} to {worst[1][-1]}, {float(worst[2]) / 1000:.1f} s becomes {worst[3] / 1000:.1f} s)"
+        f" ({' to '.join(street_and_id(worst[1][place], streets) for place in (0, -1))},"
+        f" {float(worst[2]) / 1000:.1f} s becomes {worst[3] / 1000:.1f} s)"
     ]

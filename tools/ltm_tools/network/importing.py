@@ -9,7 +9,7 @@ from fractions import Fraction
 from ..case import Case, Demand, Link, Setup
 from ..case.roads import Roads
 from ..case.source import Source, SourceLink
-from ..errors import Fault, one_line
+from ..errors import Fault, TooLarge, one_line
 from ..formats import (
     MINUTE_MS,
     MOST_CELLS_ASKED,
@@ -218,15 +218,18 @@ def horizon_slots(horizon_ms: int, step: int) -> int:
     return max(1, slots)
 
 
-def destinations_that_fit(raw: Network, horizon_ms: int, step: int | None) -> int:
-    """How many destinations a case of this network may have, by its cells; as many as any case may have, where the step
-    is not known yet. Where roads are merged, more fit; where turns become links, fewer do."""
+def destinations_that_fit(
+    raw: Network, horizon_ms: int, step: int | None, cells: int = MOST_CELLS_ASKED, more: int = 0
+) -> int:
+    """How many destinations a case of this network may have, by its cells, with so many links more; as many as any case
+    may have, where the step is not known yet. Where roads are merged, more fit; where turns become links, fewer do."""
     if step is None:
         return MOST_DESTINATIONS_ASKED
     setup = Setup(step, min(MOST_SLOTS, -(-horizon_ms // step)), 1)
     links = [Link(road.name, road.tail, road.head, 1, 1, 1, 1) for road in raw.roads.values()]
+    links += links[:1] * more
     one, two = (Case(setup, links, [Demand("", str(end), 0, 1, 1) for end in range(count)]).cells() for count in (1, 2))
-    return max(1, min(MOST_DESTINATIONS_ASKED, (MOST_CELLS_ASKED - one) // (two - one) + 1))
+    return max(1, min(MOST_DESTINATIONS_ASKED, (cells - one) // (two - one) + 1))
 
 
 def check_destinations(nodes: Iterable[str], most: int = MOST_DESTINATIONS_ASKED) -> None:
@@ -234,7 +237,7 @@ def check_destinations(nodes: Iterable[str], most: int = MOST_DESTINATIONS_ASKED
     ends = list(dict.fromkeys(nodes))
     if len(ends) > MOST_DESTINATIONS_ASKED:
         less = "" if most == MOST_DESTINATIONS_ASKED else f" (about {most} fit into the cells that a case may have)"
-        raise Fault(
+        raise TooLarge(
             f"there are {len(ends)} destinations, and at most {MOST_DESTINATIONS_ASKED} may be: give"
             f" --destinations {most}{less},"
             f" which keeps those with most vehicles, and lets the other trips end at the nearest of them; past"
@@ -247,7 +250,7 @@ def check_ends(pairs: Collection[tuple[str, str]], most: int = MOST_DESTINATIONS
     has a row of demand."""
     check_destinations((end for _, end in pairs), most)
     if len(pairs) > MOST_ROWS_ASKED:
-        raise Fault(
+        raise TooLarge(
             f"there are {count_text(len(pairs))} pairs of origin and destination, and at most"
             f" {count_text(MOST_ROWS_ASKED)} rows of demand may"
             " be: give fewer --destinations, or join nodes where trips begin"

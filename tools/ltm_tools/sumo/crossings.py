@@ -1,6 +1,7 @@
 """Makes links of the turns of a net of SUMO, and gives its routes over them."""
 from __future__ import annotations
 
+from collections.abc import Collection
 from dataclasses import dataclass
 from fractions import Fraction
 
@@ -51,21 +52,33 @@ def choose(inputs: Inputs, options: SumoOptions) -> tuple[Movements, Chosen]:
     is fitted."""
     raw = inputs.net.network
     found = movements_of_net(inputs, options)
-    wanted = chosen(raw, found, route_ends(inputs), options.crossings.turns)
+    asked = options.crossings
+    begins, ends = route_begins(inputs, options), route_ends(inputs)
+    wanted = chosen(raw, found, ends, asked.turns, begins=begins, apart=asked.apart)
     picked = wanted if options.fit else cut_as_they_are(raw, wanted, net_step(inputs, options))
     inputs.notes += whole_told(len(wanted.crossings) - len(picked.crossings))
     return found, picked
 
 
-def route_ends(inputs: Inputs) -> set[str]:
-    """The nodes where trips end."""
-    return {inputs.net.network.roads[name].head for name in {route.links[-1] for route in inputs.routes}}
+def route_ends(inputs: Inputs, own: Collection[str] = ()) -> set[str]:
+    """The nodes where trips end, apart from those on edges with an end of their own."""
+    last = {route.links[-1] for route in inputs.routes}
+    return {inputs.net.network.roads[name].head for name in last if name not in own}
 
 
-def turn(inputs: Inputs, found: Movements, picked: Chosen, options: SumoOptions) -> TurnedNet:
-    """Makes links of the turns of the picked crossings, and leads the routes over them."""
+def route_begins(inputs: Inputs, options: SumoOptions) -> set[str]:
+    """The nodes where trips begin that may take each link from there."""
+    if options.crossings.origins != "node":
+        return set()
+    return {inputs.net.network.roads[route.links[0]].tail for route in inputs.routes}
+
+
+def turn(
+    inputs: Inputs, found: Movements, picked: Chosen, options: SumoOptions, own: Collection[str] = ()
+) -> TurnedNet:
+    """Makes links of the turns of the picked crossings, and leads the routes over them; the edges of `own` have an end
+    each."""
     raw, asked = inputs.net.network, options.crossings
-    begins = {raw.roads[route.links[0]].tail for route in inputs.routes} if asked.origins == "node" else set()
     capacities = {name: road.capacity for name, road in raw.roads.items()}
     counted = counted_routes(inputs, options)
     lanes = lanes_by_counts(inputs, counted, found, capacities, options) if asked.lanes != "full" else {}
@@ -73,14 +86,17 @@ def turn(inputs: Inputs, found: Movements, picked: Chosen, options: SumoOptions)
         step=net_step(inputs, options),
         length_m=asked.length_m,
         lanes=lanes,
-        ends=route_ends(inputs),
-        begins=begins,
+        ends=route_ends(inputs, own),
+        own_ends=own,
+        begins=route_begins(inputs, options),
         saturation=asked.saturation,
     )
     made = expand(raw, found, picked, form)
     vehicles = units_by_node(inputs.routes, made)
     driven = led_over(inputs.routes, made.route)
-    inputs.notes += crossings_told(made, route_units(inputs.routes) - route_units(driven))
+    inputs.notes += crossings_told(made)
+    if lost := route_units(inputs.routes) - route_units(driven):
+        inputs.found.leave_out("that take a turn which is forbidden", lost)
     inputs.routes = driven
     return TurnedNet(
         found, made, capacities, lanes, None if options.volumes is None else led_over(counted, made.route), vehicles

@@ -107,8 +107,8 @@ class Driver:
         """The edges of a vehicle's way; NoWay where the case has none."""
         if vehicle.junctions is not None:
             tail, head = vehicle.junctions
-            way = self.roadmap.way(self._start(tail), self._node(head), vehicle.depart)
-            return self.ways.on(way)
+            end = self._node(head)
+            return self.ways.on(self.roadmap.way(self._start(tail, end), end, vehicle.depart))
         first, last = (vehicle.edges[0], vehicle.edges[-1]) if vehicle.edges else vehicle.ends or ("", "")
         for edge in (first, last):
             if edge not in self.source.links:
@@ -131,10 +131,16 @@ class Driver:
             raise NoWay(f"junction {name} is none of the case")
         return self.source.nodes[name]
 
-    def _start(self, junction: str) -> str:
-        """The node of the case where trips begin at a junction."""
+    def _start(self, junction: str, end: str) -> str:
+        """The node of the case where trips from a junction to a node begin: of several, where it was parted, the first
+        that has shares for that node."""
         start = f"{junction}_start"
-        return self._origin(start if start in self.nodes else self._node(junction))
+        first = self._origin(start if start in self.nodes else self._node(junction))
+        if (first, end) in self.roadmap.rows:
+            return first
+        edges = (name for name, edge in self.source.links.items() if edge.tail == junction)
+        origins = (self._origin(self._begin(name)) for name in edges)
+        return next((node for node in origins if (node, end) in self.roadmap.rows), first)
 
     def _origin(self, node: str) -> str:
         """The node at which those set out who begin at a node: its own, or that of its entry."""

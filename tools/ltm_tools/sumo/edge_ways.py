@@ -52,7 +52,9 @@ class EdgeWays:
     def stop(self, edge: str) -> str | None:
         """The node of the case at which trips end on an edge that was cut before its end."""
         link = self.source.links.get(f"{edge}_stop")
-        return None if link is None or link.link is None else self.roads.links[link.link].head
+        if link is None or link.link is None:
+            return self.source.stop(edge, self.roads)
+        return self.roads.links[link.link].head
 
     def on(self, way: Sequence[str], first: str | None = None, last: str | None = None) -> list[str]:
         """The edges on a way over links, from the first edge of a trip to its last one where these are known; between

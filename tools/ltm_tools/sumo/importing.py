@@ -2,18 +2,19 @@
 from __future__ import annotations
 
 from collections.abc import Iterable
-from dataclasses import dataclass, field
+from dataclasses import dataclass, field, replace
 from fractions import Fraction
 
 from ..case import Case
 from ..case.sizes import ask_for_sizes
 from ..demand.route_splits import led_over, units_by_links
-from ..formats import MINUTE_MS, clock_text, many, short_vehicles
+from ..errors import TooLarge
+from ..formats import clock_text, many, short_vehicles
 from ..network.changes import changes_told
 from ..network.crossings.chosen import Chosen
 from ..network.crossings.sizes import links_told
 from ..network.crossings.sources import with_turns
-from ..network.crossings.yielding import Yielding, add_waits, yield_limits, yields_told
+from ..network.crossings.yielding import Yielding, add_waits, limit_yields, yields_told
 from ..network.entries import add_entries, entries_told, without
 from ..network.imported import Imported
 from ..network.importing import Carried, NotCarried, carried, check_ends
@@ -22,12 +23,22 @@ from ..network.placing import places_of
 from ..network.steps import steps_table
 from ..network.street_names import street_names
 from .crossings import TurnedNet, choose, net_step, turn, yields_by_counts
-from .ends import Cut
-from .inputs import Inputs, StrPath, end_before_signals, fewer_ends, horizon_ms, read_inputs
-from .losses import check_losses
+from .ends import Cut, over_parts, whole_again
+from .inputs import Inputs, StrPath, counted_routes, end_before_signals, fewer_ends, horizon_ms, read_inputs
+from .losses import check_losses, losses_told
 from .net import Connection
 from .options import SumoOptions
-from .rows import case_of, over_links, turns_of_case
+from .own_begins import (
+    LINKS_OF_A_BEGIN,
+    OwnBegins,
+    cut_begins,
+    forked,
+    may_leave_by_others,
+    units_of_first,
+    whole_edges,
+)
+from .own_ends import OwnEnds, own_ends
+from .rows import case_of, check_greens, over_links, turns_of_case
 from .signals import signal_edges
 
 
@@ -44,6 +55,10 @@ class Asked:
     """The links by which trips come to nodes that others drive over."""
     yields: list[Yielding] = field(default_factory=list)
     """The approaches of junctions without lights that yield as a whole."""
+    own: OwnEnds = OwnEnds()
+    """The edges at which trips end that have an end of their own."""
+    begins: OwnBegins = field(default_factory=OwnBegins)
+    """The edges on which trips begin that have a beginning of their own."""
 
     @property
     def raw(self) -> Network:
@@ -60,7 +75,24 @@ class Asked:
 def import_sumo(net: StrPath, files: Iterable[StrPath] = (), options: SumoOptions = SumoOptions()) -> Imported:
     """The case of a net, with the vehicles and the programs of signals in files; NotCarried with all that a case cannot
     have."""
-    asked = read_all(net, files, options, True)
+    paths = tuple(files)
+    asked = read_all(net, paths, options, True)
+    try:
+        return import_asked(asked, options)
+    except TooLarge as fault:
+        if not asked.own.edges and not asked.begins.parts:
+            raise
+        crossings = replace(options.crossings, origins="turns") if asked.begins.parts else options.crossings
+        made = import_sumo(net, paths, replace(options, ends="node", crossings=crossings))
+        told = [
+            *(["trips end at nodes, by whichever edge (--ends node)"] if asked.own.edges else []),
+            *(["trips begin at nodes, but for crossings (--origins turns)"] if asked.begins.parts else []),
+        ]
+        return replace(made, told=(*made.told, f"{'; '.join(told)}; with an end for each edge: {fault}"))
+
+
+def import_asked(asked: Asked, options: SumoOptions) -> Imported:
+    """The case of what was read."""
     inputs = asked.inputs
     check_losses(inputs, options)
     check_ends(asked.ends())
@@ -72,20 +104,23 @@ def import_sumo(net: StrPath, files: Iterable[StrPath] = (), options: SumoOption
         raise
     driven = over_links(made, inputs.routes)
     case = case_of(made, inputs, driven, asked.held, asked.cut, options)
-    give_way_in(case, made, asked.yields, options)
+    limit_yields(case, made.source, asked.yields, options.crossings.slice_minutes)
     turns = None if asked.turned is None else turns_of_case(made, asked.turned, case, driven, inputs, options)
+    source = without(made.source, raw=asked.raw, links=asked.entries)
+    source = source if asked.turned is None else with_turns(source, asked.turned.expanded)
+    source = whole_edges(whole_again(source, asked.cut), made.source, asked.begins)
+    streets = {**streets_of_parts(made, asked), **street_names(source, inputs.net.streets, turns)}
+    check_greens(case, driven, turns, streets, inputs, options.allow_losses)
     sizes = [*ask_for_sizes(case, options.moves), *fewer_turns(asked.turned, len(case.links), False)]
     places, lost = places_of(made, inputs.net.drawn)
     told = [
         *size_told(case, inputs),
         *left_out_told(inputs),
         *inputs.notes,
-        *changes_told(made, routes, set(asked.cut.stops.values())),
+        *changes_told(made, routes, set(asked.cut.stops.values()), inputs.net.streets),
         *lost,
         *sizes,
     ]
-    source = without(made.source, raw=asked.raw, links=asked.entries)
-    source = source if asked.turned is None else with_turns(source, asked.turned.expanded)
     return Imported(
         case,
         places,
@@ -94,20 +129,21 @@ def import_sumo(net: StrPath, files: Iterable[StrPath] = (), options: SumoOption
         tuple(told),
         inputs.begin_ms if inputs.found.vehicles or options.begin_ms is not None else None,
         turns,
-        street_names(source, inputs.net.streets, turns),
+        streets,
         inputs.background,
     )
 
 
-def give_way_in(case: Case, made: Carried, yields: list[Yielding], options: SumoOptions) -> None:
-    """Gives the approaches that yield their limits, but for those that a fit has contracted."""
-    links = {link.name: link for link in case.links}
-    for one in yields:
-        name = made.source.links[one.approach].link
-        if name is not None:
-            slice_ms = options.crossings.slice_minutes * MINUTE_MS
-            case.signals += yield_limits(one, links[name], case.setup, slice_ms)
-    case.setup.signals = bool(case.signals)
+def streets_of_parts(made: Carried, asked: Asked) -> dict[str, str]:
+    """The streets of the links that edges were cut into where trips begin and end on them."""
+    cut = asked.cut
+    parts = [*asked.begins.parts.items(), *((name, of[name]) for name in cut.own for of in (cut.exits, cut.stops))]
+    streets = asked.inputs.net.streets
+    return {
+        link: streets[edge]
+        for edge, part in parts
+        if streets.get(edge) and (link := made.source.links[part].link) is not None
+    }
 
 
 def fewer_turns(turned: TurnedNet | None, links: int, whole: bool) -> list[str]:
@@ -128,6 +164,8 @@ def read_all(net: StrPath, files: Iterable[StrPath], options: SumoOptions, cutti
     if options.destinations is not None:
         inputs.routes = fewer_ends(inputs, options.destinations)
     raw = inputs.net.network
+    if cutting and (options.crossings.turns != "none" or options.crossings.yielding):
+        counted_routes(inputs, options)  # before edges are cut
     found, picked = choose(inputs, options) if cutting and options.crossings.turns != "none" else (None, Chosen((), ()))
     yields = give_way(inputs, picked, options) if cutting and options.crossings.yielding else []
     held = {
@@ -135,14 +173,25 @@ def read_all(net: StrPath, files: Iterable[StrPath], options: SumoOptions, cutti
         for name, ways in (signal_edges(inputs.net) if options.signals else {}).items()
         if raw.roads[name].head not in picked.crossings
     }
-    cut = (
-        end_before_signals(inputs, held, options, {*picked.crossings, *picked.parted})
-        if cutting and not options.wait_at_ends
-        else Cut()
-    )
-    turned = None if found is None or not (picked.crossings or picked.parted) else turn(inputs, found, picked, options)
+    own, cut, begins = OwnEnds(), Cut(), OwnBegins()
+    on_edges = cutting and options.entries and options.crossings.origins == "edge"
+    if cutting and not options.wait_at_ends:
+        each = options.ends == "edge"
+        more = LINKS_OF_A_BEGIN * len(forked(raw, units_of_first(inputs.routes), picked.crossings)) * on_edges
+        own = own_ends(inputs, found, picked, options, more) if each else own
+        turned_nodes = {*picked.crossings, *picked.parted}
+        cut = end_before_signals(inputs, held, options, turned_nodes, own.edges if each else None)
+        inputs.notes += own.told()
+    is_turned = found is not None and (picked.crossings or picked.parted)
+    turned = turn(inputs, found, picked, options, own.edges) if found is not None and is_turned else None
+    if on_edges:
+        begins = begin_on_edges(inputs, options)
+    elif cutting:
+        inputs.notes += may_leave_by_others(raw, inputs.routes)
+    if turned is not None and turned.counted is not None:
+        turned.counted = led_over(turned.counted, lambda links: begins.over_parts(over_parts(links, cut)))
     entries = enter(inputs, options) if cutting and options.entries else frozenset()
-    asked = Asked(inputs, held, cut, turned, entries, yields)
+    asked = Asked(inputs, held, cut, turned, entries, yields, own, begins)
     raw.signals = {cut.exits.get(name, name) for name in held}
     if turned is not None:
         raw.signals |= {
@@ -157,6 +206,15 @@ def give_way(inputs: Inputs, picked: Chosen, options: SumoOptions) -> list[Yield
     yields = add_waits(inputs.net.network, yields_by_counts(inputs, picked, options))
     inputs.notes += yields_told(yields, inputs.net.streets)
     return yields
+
+
+def begin_on_edges(inputs: Inputs, options: SumoOptions) -> OwnBegins:
+    """Lets trips leave by the edge on which they begin, and tells it."""
+    begins = cut_begins(inputs.net.network, inputs.routes, net_step(inputs, options))
+    inputs.turns_before = inputs.turns_before or inputs.routes
+    inputs.routes = led_over(inputs.routes, begins.over_parts)
+    inputs.notes += begins.told()
+    return begins
 
 
 def enter(inputs: Inputs, options: SumoOptions) -> frozenset[str]:
@@ -193,6 +251,4 @@ def left_out_told(inputs: Inputs) -> list[str]:
     told = [f"{count} edges are left out: {why}" for why, count in inputs.net.left_out.items()]
     if inputs.net.shorter:
         told.append(f"{inputs.net.shorter} edges are shorter than 1 m and get 1 m")
-    return told + [
-        f"{short_vehicles(count)} vehicles are left out: {why}" for why, count in inputs.found.left_out.items()
-    ]
+    return told + losses_told(inputs)

@@ -2,7 +2,7 @@
 from __future__ import annotations
 
 import os
-from collections.abc import Container, Iterable, Mapping, Sequence
+from collections.abc import Collection, Container, Iterable, Mapping, Sequence
 from dataclasses import dataclass, field, replace
 from fractions import Fraction
 from functools import partial
@@ -38,21 +38,27 @@ class Inputs:
     routes: list[Route] = field(default_factory=list)
     turns_before: list[Route] = field(default_factory=list)
     """The routes before edges were cut, where some were."""
+    counted: list[Route] | None = None
+    """The routes of other vehicles by which traffic at crossings is counted, once they were read."""
     begin_ms: int = 0
     background: Background = Background()
     notes: list[str] = field(default_factory=list)
 
 
 def end_before_signals(
-    inputs: Inputs, held: dict[str, list[Connection]], options: SumoOptions, turned: Container[str]
+    inputs: Inputs,
+    held: dict[str, list[Connection]],
+    options: SumoOptions,
+    turned: Container[str],
+    own: Collection[str] | None = None,
 ) -> Cut:
-    """Lets trips end before a signal at the end of their last edge, or each on its last edge apart from those whose
-    turns are links, and tells it."""
+    """Lets trips end before a signal at the end of their last edge, or on that edge where it has an end of its own, and
+    tells it; `turned` are the nodes whose turns are links."""
     raw = inputs.net.network
     step = options.fit or options.step or min(longest_step(raw), MINUTE_MS)
-    each = options.ends == "edge"
-    shared = 0 if each else ends_shared(inputs, turned)
-    cut = cut_ends(raw, inputs.routes, set(held), step, turned if each else None)
+    shared = 0 if own is not None else ends_shared(inputs, turned)
+    whole = [name for name in own or () if raw.roads[name].head not in turned]
+    cut = cut_ends(raw, inputs.routes, set(held), step, whole)
     inputs.turns_before = inputs.routes
     inputs.routes = led_over(inputs.routes, partial(over_parts, cut=cut))
     if shared:
@@ -60,18 +66,12 @@ def end_before_signals(
             f"{short_vehicles(shared)} vehicles end where other edges lead too, and may come there by these (--ends"
             f" edge gives each edge an end of its own)"
         )
-    if each and cut.exits:
-        inputs.notes.append(f"{len(cut.exits)} edges at which trips end have an end of their own")
-    elif cut.exits:
+    if len(cut.exits) > len(cut.own):
         inputs.notes.append(
-            f"{len(cut.exits)} edges are cut a step before a signal, so that trips that end there need"
+            f"{len(cut.exits) - len(cut.own)} edges are cut a step before a signal, so that trips that end there need"
             f" not wait for it (--wait-at-ends leaves them whole)"
         )
-    if each and cut.too_short:
-        inputs.notes.append(
-            f"trips that end on {cut.too_short} edges end at the node behind, as these are too short to be cut"
-        )
-    elif cut.too_short:
+    if cut.too_short:
         inputs.notes.append(
             f"trips that end on {cut.too_short} edges wait for the signal at their end, as these are"
             f" too short to be cut"
@@ -187,14 +187,23 @@ def driven_or_why(given: Links, edges: Links, ways: Ways) -> tuple[Links, str]:
 
 
 def counted_routes(inputs: Inputs, options: SumoOptions) -> list[Route]:
-    """The routes by which traffic at crossings is counted: those of the case, or of other vehicles."""
+    """The routes by which traffic at crossings is counted: those of the case, or of other vehicles, which are read the
+    first time, before edges are cut."""
     if options.volumes is None:
         return inputs.routes
-    other = Inputs(inputs.net, read_vehicles([existing(options.volumes)]), begin_ms=inputs.begin_ms)
-    other.found.vehicles = [one for one in other.found.vehicles if one.depart_ms >= inputs.begin_ms]
-    find_routes(other, replace(options, destinations=options.destinations or MOST_DESTINATIONS_ASKED))
-    inputs.notes += [f"traffic at crossings is counted by {options.volumes}: {len(other.routes)} routes"]
-    return other.routes
+    if inputs.counted is None:
+        other = Inputs(inputs.net, read_vehicles([existing(options.volumes)]), begin_ms=inputs.begin_ms)
+        other.found.vehicles = [one for one in other.found.vehicles if one.depart_ms >= inputs.begin_ms]
+        find_routes(other, replace(options, destinations=options.destinations or MOST_DESTINATIONS_ASKED))
+        inputs.counted = other.routes
+        inputs.notes += [
+            f"traffic at crossings is counted by {options.volumes}: {len(other.routes)} routes",
+            *(
+                f"{short_vehicles(units)} vehicles of {options.volumes} are not counted: {why}"
+                for why, units in other.found.left_out.items()
+            ),
+        ]
+    return inputs.counted
 
 
 def by_legs(places: Sequence[str], legs: Mapping[Leg, tuple[str, ...]]) -> tuple[str, ...]:

@@ -11,7 +11,7 @@ from fractions import Fraction
 from ..demand.cycles import Green
 from ..formats import MINUTE_MS
 from ..network.crossings.movements import Held, Movement, Movements, movements_of
-from ..network.crossings.options import MAJOR_GAP, MINOR_GAP, ROUND_GAP, GapAcceptance
+from ..network.crossings.options import EQUAL_GAP, MAJOR_GAP, MINOR_GAP, ROUND_GAP, GapAcceptance
 from .net import Connection, SumoNet, Program
 from .signals import GREEN, OFF, YELLOW, cycle_of
 
@@ -76,11 +76,13 @@ def by_sign(
 
 
 def sign_gap(net: SumoNet, way: Connection, against: Iterable[Connection], major: bool) -> GapAcceptance:
-    """The gap by which a turn without a signal yields: into a roundabout, from a way of which other turns yield to
-    nobody, or else from one without priority, as where all are equal and the right comes first."""
+    """The gap by which a turn without a signal yields: into a roundabout, where all are equal and the right comes
+    first, from a way of which other turns yield to nobody, or else from one without priority."""
     if all(foe.edge in net.circling for foe in against):
         return ROUND_GAP
-    return MAJOR_GAP if major and way.state != EQUAL else MINOR_GAP
+    if way.state == EQUAL:
+        return EQUAL_GAP
+    return MAJOR_GAP if major else MINOR_GAP
 
 
 def always(share: Fraction) -> tuple[Green, ...]:

@@ -39,9 +39,9 @@ class SumoOptions(Options):
     spacing: Fraction | None = None
     """Metres of a standing vehicle; without it the mean of the types of vehicles, 7.5 where they say nothing."""
 
-    ends: Literal["node", "edge"] = "node"
-    """Whether a trip ends at the node to which its last edge leads, by whichever edge it comes there, or on that
-    edge."""
+    ends: Literal["node", "edge"] = "edge"
+    """Whether a trip ends at the node to which its last edge leads, by whichever edge it comes there, or on that edge,
+    as far as a case takes so many destinations."""
     allow_losses: bool = False
     """Whether vehicles may be lost that are more than one in a hundred."""
 

@@ -1,7 +1,7 @@
 """The rows of a case that is made of a net: its demand, splits and signals, by the routes of vehicles."""
 from __future__ import annotations
 
-from collections.abc import Container
+from collections.abc import Container, Mapping
 from fractions import Fraction
 from functools import partial
 
@@ -11,9 +11,17 @@ from ..demand.cycles import Plan
 from ..demand.route_splits import Cuts, Route, circles, from_routes, led_over, units_by_links
 from ..demand.signal_plans import limits_of_plan
 from ..demand.trips import Trip, by_trips
-from ..errors import Fault
+from ..errors import Fault, TooLarge
 from ..formats import MINUTE_MS, MOST_DEMAND_ROWS, MOST_ROWS_ASKED, MOST_SPLIT_ROWS, UNITS, many, short_vehicles
 from ..network.crossings.limits import turn_limits
+from ..network.crossings.never_green import (
+    check_never_green,
+    never_green_links_told,
+    never_green_told,
+    part_text,
+    shut_links,
+    shut_turns,
+)
 from ..network.crossings.sources import links_of_turns
 from ..network.crossings.told import saturation_told, turns_told
 from ..network.crossings.turn import for_part, part_of_road, turns_of
@@ -81,9 +89,12 @@ def demand_of(routes: list[Route], case: Case, inputs: Inputs, options: SumoOpti
             continue
         inputs.notes.append(f"{many(len(rows), 'row')} of demand in slices of {minutes} minutes, of at most {most}")
         if late:
-            inputs.notes.append(f"{short_vehicles(late)} vehicles set out past the horizon and are left out")
+            inputs.notes.append(
+                f"{short_vehicles(late)} vehicles ({part_text(late, sum(trip.units for trip in trips))} of all) set out"
+                f" past the horizon and are left out (give a longer --horizon)"
+            )
         return rows
-    raise fault or Fault("no slices")
+    raise TooLarge(str(fault) if fault else "no slices")
 
 
 def splits_of(routes: list[Route], case: Case, inputs: Inputs, options: SumoOptions) -> list[Split]:
@@ -110,7 +121,7 @@ def splits_of(routes: list[Route], case: Case, inputs: Inputs, options: SumoOpti
             if circles(case.links, rows):
                 raise Fault("a destination has a loop, which is a fault of this tool")
             return rows
-    raise Fault(
+    raise TooLarge(
         f"{len(rows)} rows of splits, and at most {most} may be; give a longer --slice, or fewer" " --destinations"
     )
 
@@ -197,5 +208,19 @@ def turns_of_case(
     if limits:
         links_held = len({limit.link for limit in limits})
         inputs.notes.append(f"{many(len(limits), 'record')} of signals, of {many(links_held, 'turn')}")
-    inputs.notes += [*saturation_told(turns), *turns_told(turns, volumes, links, case.setup, inputs.net.streets)]
+    whole = sum(row.units for row in case.demand)
+    inputs.notes += [*saturation_told(turns), *turns_told(turns, volumes, links, case.setup, inputs.net.streets, whole)]
     return Turns(tuple(turns), volumes)
+
+
+def check_greens(
+    case: Case, routes: list[Route], turns: Turns | None, streets: Mapping[str, str], inputs: Inputs, allowed: bool
+) -> None:
+    """Tells which links never have green though vehicles are sent over them; a Fault where too many vehicles would wait
+    there, or before such turns, and this is not allowed. `streets` are those of links of the case."""
+    whole, made = sum(row.units for row in case.demand), () if turns is None else turns.turns
+    told = never_green_links_told(shut_links(case, routes, made), streets, whole)
+    inputs.notes += told
+    if not allowed:
+        told += [] if turns is None else never_green_told(shut_turns(made, turns.volumes), inputs.net.streets, whole)
+        check_never_green(told, sum(shut_links(case, routes, ()).values()), whole)

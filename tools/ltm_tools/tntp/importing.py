@@ -17,10 +17,12 @@ from ..demand.matrices import Amounts
 from ..demand.values import whole_units
 from ..files import existing
 from ..network.imported import Imported
+from ..network.entries import without
 from ..network.importing import carried, check_ends, destinations_that_fit, least_routes
 from ..network.lengths import unit_by_range
 from ..network.network import LEAST_M, Network, Node, road_of
 from ..network.od_case import OdOptions, case_of, inner_told, departure_parts, size_told
+from ..network.od_entries import enter_zones
 from ..network.od_nodes import by_node, fewer_ends, pairs_of
 from ..network.placing import Map, places_of
 from ..network.steps import steps_table
@@ -68,6 +70,8 @@ class Asked:
     in_degrees: bool
     notes: list[str] = field(default_factory=list)
     volumes: dict[tuple[str, str], Fraction] = field(default_factory=dict)
+    entries: frozenset[str] = frozenset()
+    """The links by which trips come to nodes that others drive over."""
 
 
 def import_tntp(
@@ -96,7 +100,8 @@ def import_tntp(
         *sizes,
     ]
     changes = tuple(made.fit.changes) if made.fit is not None else None
-    return Imported(case, places, made.source, changes, tuple(told), clock)
+    source = without(made.source, raw=raw, links=asked.entries)
+    return Imported(case, places, source, changes, tuple(told), clock)
 
 
 def steps_of_tntp(
@@ -128,6 +133,8 @@ def read_all(net: StrPath, trips: StrPath, nodes: StrPath | None, options: TntpO
     if options.destinations is None and not options.leave_out_unreached:
         most = destinations_that_fit(asked.network, options.horizon * MINUTE_MS, options.fit or options.step)
         check_ends(pairs_of(asked.network, amounts), most)
+    if options.entries:
+        asked.entries = enter_zones(asked.network, amounts, options, asked.notes)
     asked.volumes = by_node(asked.network, amounts, options.leave_out_unreached, asked.notes)
     if options.destinations is not None and asked.volumes:
         asked.volumes = fewer_ends(asked.network, asked.volumes, options.destinations, asked.notes)

@@ -6,6 +6,7 @@ from dataclasses import dataclass
 
 from ...errors import Fault
 from ..network import Network
+from .apart import groups_of
 from .movements import Movements
 
 Asked = str | tuple[str, ...]
@@ -13,32 +14,55 @@ Asked = str | tuple[str, ...]
 
 @dataclass(frozen=True)
 class Chosen:
-    """The crossings whose turns become links, and the nodes of ends alone, which part in two: one where links end, and
-    one where they begin."""
+    """The crossings whose turns become links; the dead ends, which part in two nodes: one where links end, and one
+    where they begin; and the nodes whose turns fall apart, which part in a node for each group of links where they are
+    no crossings."""
 
     crossings: tuple[str, ...]
-    parted: tuple[str, ...]
+    dead_ends: tuple[str, ...]
+    apart: tuple[str, ...] = ()
+
+    @property
+    def parted(self) -> tuple[str, ...]:
+        """The nodes that part."""
+        crossings = set(self.crossings)
+        return (*self.dead_ends, *(node for node in self.apart if node not in crossings))
 
 
-def chosen(network: Network, movements: Movements, ends: Collection[str], asked: Asked) -> Chosen:
-    """The nodes that are asked for: by a word of the options, or by their names. `ends` are those where trips end."""
+def chosen(
+    network: Network,
+    movements: Movements,
+    ends: Collection[str],
+    asked: Asked,
+    *,
+    begins: Collection[str] = (),
+    apart: bool = True,
+) -> Chosen:
+    """The nodes that are asked for: by a word of the options, or by their names. `ends` are those where trips end, by
+    any link, `begins` those where they begin on any; without `apart` no nodes part but dead ends."""
     if asked == "none":
         return Chosen((), ())
+    view = View(network, movements, ends, begins)
     if not isinstance(asked, str):
-        check_named(network, asked)
-    view = View(network, movements, ends)
-    crossings, parted = [], []
+        return named(view, asked)
+    crossings, dead_ends, fallen = [], [], []
     for node in network.nodes:
+        falls = apart and view.falls_apart(node)
         if view.is_dead_end(node):
-            if isinstance(asked, str) or node in asked:
-                parted.append(node)
-        elif (
-            view.has_turns(node)
-            if not isinstance(asked, str) and node in asked
-            else isinstance(asked, str) and view.is_wanted(node, asked == "all")
-        ):
+            dead_ends.append(node)
+        elif view.is_wanted(node, asked == "all") or falls and view.is_open(node):
             crossings.append(node)
-    return Chosen(tuple(crossings), tuple(parted))
+        if falls and not view.is_open(node) and not view.is_dead_end(node):
+            fallen.append(node)
+    return Chosen(tuple(crossings), tuple(dead_ends), tuple(fallen))
+
+
+def named(view: View, names: Collection[str]) -> Chosen:
+    """The nodes of these names; all others stay as they are."""
+    check_named(view.network, names)
+    known = [node for node in view.network.nodes if node in names]
+    dead_ends = tuple(node for node in known if view.is_dead_end(node))
+    return Chosen(tuple(node for node in known if node not in dead_ends and view.has_turns(node)), dead_ends)
 
 
 def check_named(network: Network, names: Iterable[str]) -> None:
@@ -51,8 +75,10 @@ def check_named(network: Network, names: Iterable[str]) -> None:
 class View:
     """What is to be known of a node to choose it."""
 
-    def __init__(self, network: Network, movements: Movements, ends: Collection[str]) -> None:
-        self.network, self.turns, self.ends = network, movements.turns, ends
+    def __init__(
+        self, network: Network, movements: Movements, ends: Collection[str], begins: Collection[str] = ()
+    ) -> None:
+        self.network, self.turns, self.ends, self.begins = network, movements.turns, ends, begins
         self.exits, self.held = movements.exits(), movements.held()
 
     def has_turns(self, node: str) -> bool:
@@ -62,6 +88,17 @@ class View:
     def is_dead_end(self, node: str) -> bool:
         """Whether no link that ends at a node leads on, though links begin there: then nobody may turn back."""
         return bool(self.turns and self.network.ins[node] and self.network.outs[node]) and not self.has_turns(node)
+
+    def falls_apart(self, node: str) -> bool:
+        """Whether links end and begin at a node, and its turns fall apart into groups of them."""
+        is_passed = bool(self.turns and self.network.ins[node] and self.network.outs[node])
+        return is_passed and len(groups_of(self.network, self.turns, node)) > 1
+
+    def is_open(self, node: str) -> bool:
+        """Whether trips end at a node, or begin there, by links of several groups: such a node cannot part."""
+        groups = groups_of(self.network, self.turns, node)
+        several = (sum(bool(group.ins) for group in groups) > 1, sum(bool(group.outs) for group in groups) > 1)
+        return several[0] and node in self.ends or several[1] and node in self.begins
 
     def is_wanted(self, node: str, every: bool) -> bool:
         """Whether a node is a crossing with several ways, held by a signal where not every one is wanted, or one where

@@ -18,6 +18,7 @@ from ..fitting import stretched
 from ..lines import Line, cut_at
 from ..network import LEAST_M, Network, Node, Road, diagram_of, most_capacity
 from . import drawing
+from .apart import groups_of
 from .chosen import Chosen
 from .movements import Movements, Pair
 
@@ -41,6 +42,12 @@ class Expanded:
     """Of each crossing how many roads it has more than before."""
     parted: int = 0
     """How many dead ends were parted."""
+    apart: int = 0
+    """How many other nodes were parted."""
+    heads: dict[str, str] = field(default_factory=dict)
+    """Of each link that ends at a node that was parted the node where it ends now."""
+    tails: dict[str, str] = field(default_factory=dict)
+    """Of each link that begins there the node where it begins now."""
     short: int = 0
     """How many approaches are shorter than two links that the step allows."""
 
@@ -54,6 +61,8 @@ class Expanded:
         links = [self.starts[roads[0]]] if roads[0] in self.starts else []
         for name, after in zip(roads, roads[1:]):
             links.append(name)
+            if self.heads.get(name) != self.tails.get(after):
+                return None
             if self.ends[name][1] in self.added:
                 if (name, after) not in self.links:
                     return None
@@ -66,24 +75,24 @@ class Expanded:
 @dataclass(frozen=True, kw_only=True)
 class Form:
     """How turns are made: the step that the network is to have, the metres of a turn, the lanes of turns where they are
-    not all that serve it, the nodes where trips end, and where they begin with each exit open to them, and the most
-    that
-    a lane lets through at a stop line in an hour."""
+    not all that serve it, the nodes where trips end, the approaches with an end of their own, the nodes where trips
+    begin with each exit open to them, and the most that a lane lets through at a stop line in an hour."""
 
     step: int
     length_m: int
     lanes: Mapping[Pair, Fraction] = field(default_factory=dict)
     ends: Collection[str] = ()
+    own_ends: Collection[str] = ()
     begins: Collection[str] = ()
     saturation: Fraction | None = None
 
 
 def expand(network: Network, movements: Movements, chosen: Chosen, form: Form) -> Expanded:
-    """Makes links of the turns of the chosen crossings, and parts the chosen dead ends."""
+    """Makes links of the turns of the chosen crossings, and parts the nodes that are to part."""
     made = Expanded({name: (road.tail, road.head) for name, road in network.roads.items()})
     exits = movements.exits()
     for node in chosen.parted:
-        part(network, node, made)
+        part(network, movements, node, made)
     for node in chosen.crossings:
         Crossing(network, movements, exits, form, made, node).expand()
     for node in [node for node in network.nodes if not network.ins[node] and not network.outs[node]]:
@@ -109,14 +118,26 @@ def part_time(road: Road, step: int) -> Fraction:
     return Fraction(-(-step * max(link.free_kmh, link.wave_kmh) // 3600) + 1) * 3600 / road.kmh
 
 
-def part(network: Network, node: str, made: Expanded) -> None:
-    """Lets the roads out of a dead end begin at a node of their own."""
-    start = free_name(f"{node}_start", network.nodes)
-    network.add_node(Node(start, network.nodes[node].x, network.nodes[node].y))
-    for name in list(network.outs[node]):
-        network.move_tail(name, start)
-    made.origins[node] = start
-    made.parted += 1
+def part(network: Network, movements: Movements, node: str, made: Expanded) -> None:
+    """Gives each group of the links of a node a node of its own; the first group, in which links end, keeps the node,
+    and that in which they only begin begins at `NODE_start`."""
+    groups = groups_of(network, movements.turns, node)
+    for number, group in enumerate(groups, 1):
+        end = node
+        if number > 1:
+            end = free_name(f"{node}_{number}" if group.ins else f"{node}_start", network.nodes)
+            network.add_node(Node(end, network.nodes[node].x, network.nodes[node].y))
+            for name in group.ins:
+                network.move_head(name, end)
+            for name in group.outs:
+                network.move_tail(name, end)
+        made.heads.update(dict.fromkeys(group.ins, end))
+        made.tails.update(dict.fromkeys(group.outs, end))
+        if group.outs and end != node:
+            made.origins[node] = end
+    is_dead_end = not any(group.ins and group.outs for group in groups)
+    made.parted += is_dead_end
+    made.apart += not is_dead_end
 
 
 class Crossing:
@@ -144,7 +165,7 @@ class Crossing:
         for name in self.outs:
             self.begin_later(name)
         for name, exits in self.ins.items():
-            stops = self.node in self.form.ends
+            stops = self.node in self.form.ends or name in self.form.own_ends
             if len(exits) == 1 and not stops and self.movements.turns[name, exits[0]].is_plain:
                 self.network.move_head(name, self.network.roads[exits[0]].tail)
                 self.made.links[name, exits[0]] = name
@@ -180,11 +201,18 @@ class Crossing:
         roads = [self.turn(rest, name, after, node, last, apart) for after, apart in self.apart(name, exits).items()]
         if stops:
             self.made.stops[name] = free_name(f"{name}_stop", self.network.roads)
-            roads.append(replace(rest, name=self.made.stops[name], tail=node, head=self.node, shape=last[1:-1]))
+            end = self.own_end(name) if name in self.form.own_ends else self.node
+            roads.append(replace(rest, name=self.made.stops[name], tail=node, head=end, shape=last[1:-1]))
         for one in roads:
             one.parts = (one.name,)
             self.network.add(one)
         self.made.own[name] = [one.name for one in roads]
+
+    def own_end(self, name: str) -> str:
+        """A node at which trips on an approach alone end."""
+        end = free_name(f"{name}_end", self.network.nodes)
+        self.network.add_node(Node(end, *(self.place or (None, None))))
+        return end
 
     def apart(self, name: str, exits: list[str]) -> dict[str, float]:
         """Of each exit of an approach how many lanes to the right of its line the turn is drawn, by where it bears; in

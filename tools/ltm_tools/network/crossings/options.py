@@ -29,6 +29,10 @@ ROUND_GAP = GapAcceptance(Fraction(87, 20), Fraction(57, 20), Fraction(0))
 """That of a turn into a roundabout: the mean of the two of the Highway Capacity Manual, 4.1 and 2.6, 4.6 and 3.1
 seconds."""
 
+EQUAL_GAP = GapAcceptance(Fraction(58, 5), Fraction(7, 2), Fraction(0))
+"""That of a turn where nobody has priority and the right comes first. The manual has none: it is the one with which
+single junctions pass what they do in SUMO (docs/TURNS.md)."""
+
 
 SATURATION = Fraction(1800)
 """Vehicles an hour that a lane lets through at a stop line while it is green: in practice 1,700 to 1,900; the Highway
@@ -54,9 +58,13 @@ class CrossingOptions:
     """How much of its lanes a turn gets where it must yield: by gaps, this one in its green, or a share, 1 for all."""
     yielding: bool = True
     """Whether approaches of junctions without lights whose turns are no links let pass what finds gaps, and their
-    vehicles wait for these; of a source without routes they do not."""
-    origins: Literal["edge", "node"] = "edge"
-    """Whether trips begin on the link with which their route does, or at the node, from which they may take each."""
+    vehicles wait for these; in a source without routes, gaps in the traffic on least routes."""
+    apart: bool = True
+    """Whether a node becomes several where its allowed turns fall apart into groups of links; else dead ends do
+    alone."""
+    origins: Literal["edge", "turns", "node"] = "edge"
+    """Whether trips begin on the link with which their route does, as far as it is long enough; on it where the turns
+    of its node are links, and elsewhere at the node; or at the node, from which they may take each link."""
     slice_minutes: int = 10
     """The minutes over which traffic with priority is counted."""
 

@@ -5,9 +5,9 @@ from collections.abc import Mapping, Sequence
 from fractions import Fraction
 
 from ...case import Link, Setup
-from ...case.streets import street_and_id
-from ...formats import HOUR_MS, UNITS, counted, short_vehicles
+from ...formats import HOUR_MS, counted
 from .expand import Expanded
+from .never_green import never_green_told, shut_turns
 from .turn import Turn
 from .volumes import Volumes
 
@@ -24,8 +24,8 @@ def whole_told(count: int) -> list[str]:
     )
 
 
-def crossings_told(made: Expanded, left_out: int) -> list[str]:
-    """How many crossings have their turns as links, and the vehicles that were left out."""
+def crossings_told(made: Expanded) -> list[str]:
+    """How many crossings have their turns as links."""
     turns = sum(len(own) for own in made.own.values()) - len(made.stops)
     told = (
         [
@@ -40,6 +40,11 @@ def crossings_told(made: Expanded, left_out: int) -> list[str]:
             f"{counted(made.parted, 'dead end')} with a node for links that end and one for those that begin,"
             f" as nobody may turn back"
         )
+    if made.apart:
+        told.append(
+            f"{counted(made.apart, 'node')} with a node for each group of links that turns join, as nobody may turn"
+            f" from one group into another"
+        )
     if made.stops:
         told.append(f"{counted(len(made.stops), 'link')} for trips that end at a crossing, which no signal holds")
     if made.short:
@@ -47,8 +52,6 @@ def crossings_told(made: Expanded, left_out: int) -> list[str]:
             f"{counted(made.short, 'link')} before a crossing shorter than two links may be at this step, so"
             f" that turns make the way longer"
         )
-    if left_out:
-        told.append(f"{left_out / UNITS:g} vehicles take a turn that is forbidden, and are left out")
     return told
 
 
@@ -59,41 +62,19 @@ def turn_name(turn: Turn, streets: Mapping[str, str]) -> str:
     return f"{streets.get(turn.approach, turn.approach)} to {streets.get(turn.exit, turn.exit)} ({turn.link})"
 
 
-def never_green_told(turns: Sequence[Turn], volumes: Volumes, streets: Mapping[str, str] = NO_STREETS) -> list[str]:
-    """Which turns have vehicles and no green at all, so that nobody gets through."""
-    shut = [
-        (units, turn)
-        for turn in turns
-        if (greens := turn.protected + turn.permitted) and (units := volumes.whole(turn.link))
-        if not any(green.share and green.to_ms > green.from_ms for green in greens)
-    ]
-    if not shut:
-        return []
-    most = sorted(shut, key=lambda item: -item[0])[:MOST_TOLD]
-    more = f" and {len(shut) - MOST_TOLD} more" if len(shut) > MOST_TOLD else ""
-    return [
-        f"{counted(len(shut), 'turn')} without any green, before which"
-        f" {short_vehicles(sum(units for units, _ in shut))} vehicles wait for ever: "
-        + ", ".join(
-            f"{street_and_id(turn.approach, streets)} to {street_and_id(turn.exit, streets)} {short_vehicles(units)}"
-            for units, turn in most
-        )
-        + f"{more}; look at the programs of their signals, or give the vehicles other routes"
-    ]
-
-
 def turns_told(
     turns: Sequence[Turn],
     volumes: Volumes,
     links: Mapping[str, Link],
     setup: Setup,
     streets: Mapping[str, str] = NO_STREETS,
+    whole: int = 0,
 ) -> list[str]:
-    """Which turns yield, how little they get of it, and which have more vehicles than they let pass. `streets` are
-    those of links of the source."""
+    """Which turns never have green, which yield, how little they get of it, and which have more vehicles than they let
+    pass. `streets` are those of links of the source, `whole` the thousandths of all vehicles, where these are known."""
     called = {turn.link: turn_name(turn, streets) for turn in turns}
     yielding = [(min(turn.factors(volumes)), turn.link) for turn in turns if turn.permitted]
-    told = never_green_told(turns, volumes, streets)
+    told = never_green_told(shut_turns(turns, volumes), streets, whole)
     if yielding:
         least, link = min(yielding)
         told.append(

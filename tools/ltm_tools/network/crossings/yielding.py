@@ -13,7 +13,8 @@ from collections.abc import Iterable, Mapping
 from dataclasses import dataclass, replace
 from fractions import Fraction
 
-from ...case import Limit, Link, Setup
+from ...case import Case, Limit, Link, Setup
+from ...case.source import Source
 from ...demand.cycles import Green, Plan
 from ...demand.signal_plans import limits_of_plan
 from ...formats import HOUR_MS, MINUTE_MS, UNITS, counted
@@ -166,6 +167,16 @@ def yield_limits(one: Yielding, link: Link, setup: Setup, slice_ms: int) -> list
             green = Green(MINUTE_MS, 0, MINUTE_MS, 0, share)
             limits += limits_of_plan(Plan(link.name, (green,), begin, end), link, setup, True)
     return limits
+
+
+def limit_yields(case: Case, source: Source, yields: Iterable[Yielding], slice_minutes: int) -> None:
+    """Gives the approaches that yield their limits, but for those that a fit has contracted."""
+    links = {link.name: link for link in case.links}
+    for one in yields:
+        name = source.links[one.approach].link
+        if name is not None:
+            case.signals += yield_limits(one, links[name], case.setup, slice_minutes * MINUTE_MS)
+    case.setup.signals = bool(case.signals)
 
 
 def yields_told(yields: list[Yielding], streets: Mapping[str, str]) -> list[str]:
