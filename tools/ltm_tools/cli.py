@@ -49,6 +49,7 @@ COMMANDS = (
     "bottlenecks",
     "drive",
     "apply",
+    "cut",
     "prove",
     "install",
     "package",

@@ -15,3 +15,7 @@ class Fault(Exception):
 
     def __init__(self, text: str) -> None:
         super().__init__(one_line(text))
+
+
+class TooLarge(Fault):
+    """A case that would have more of something than the program takes."""

@@ -2,7 +2,7 @@
 the memory that they and the table of what origins have produced take."""
 from fractions import Fraction
 
-from ..errors import Fault
+from ..errors import TooLarge
 from ..formats import MINUTE_MS, MOST_CELLS, MOST_CELLS_ASKED, MOST_STEP_MS, count_text
 from .rows import Rows
 
@@ -54,7 +54,7 @@ def ask_for_cells(case: Rows) -> str:
     what would fit where they are more than may be asked for."""
     cells = case.cells()
     if cells > MOST_CELLS_ASKED:
-        raise Fault(
+        raise TooLarge(
             f"{count_text(cells)} cells, and at most {count_text(MOST_CELLS_ASKED)} may be: {cells_advice(case)}"
         )
     if cells <= MOST_CELLS:

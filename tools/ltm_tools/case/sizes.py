@@ -2,7 +2,7 @@
 floored."""
 from __future__ import annotations
 
-from ..errors import Fault
+from ..errors import TooLarge
 from ..formats import (
     DEMAND,
     MOST_DEMAND_ROWS,
@@ -19,7 +19,7 @@ from ..formats import (
 from .cells import ask_for_cells
 from .rows import Rows
 from .valid import route_rows
-from .writing import demand_records, split_records
+from .writing import demand_records, split_line
 
 ROWS_ROUNDED_TO = 1_000
 MOVES_ABOVE = 16
@@ -62,11 +62,8 @@ def demand_bytes(case: Rows) -> int:
 
 def split_bytes(case: Rows) -> int:
     """The bytes of `splits.csv`; 0 where there are no splits."""
-    return (
-        0
-        if case.splits is None
-        else sum(len(line) + 1 for line in (record_text(SPLITS), *map(record_text, split_records(case.splits))))
-    )
+    lines = [record_text(SPLITS), *map(split_line, case.splits)] if case.splits is not None else []
+    return sum(len(line) + 1 for line in lines)
 
 
 def ask_for_rows(case: Rows) -> list[str]:
@@ -80,14 +77,14 @@ def ask_for_rows(case: Rows) -> list[str]:
         return []
     rows = max(MOST_SPLIT_ROWS, -(-max(demand, splits) // ROWS_ROUNDED_TO) * ROWS_ROUNDED_TO)
     if rows > MOST_ROWS_ASKED:
-        raise Fault(
+        raise TooLarge(
             f"{count_text(demand)} rows of demand and {count_text(splits)} of"
             f" {'routes' if case.splits is None else 'splits'}, and at most"
             f" {count_text(MOST_ROWS_ASKED)} of each may be: take fewer destinations, or a smaller network"
         )
     for file, size in (("demand", demand_bytes(case)), ("splits", split_bytes(case))):
         if size > MOST_FILE_BYTES:
-            raise Fault(
+            raise TooLarge(
                 f"{file}.csv would have {count_text(size)} bytes, and at most {count_text(MOST_FILE_BYTES)} are"
                 f" read: take longer slices, shorter"
                 " names, or fewer destinations"

@@ -110,9 +110,26 @@ class Source:
         if not names:
             return ()
         start, end = self.nodes.get(self.known(names[0]).tail), self.nodes.get(self.known(names[-1]).head)
+        start = self.begin(names[0], roads) or start
+        stop = self.stop(names[-1], roads)
+        end = end if stop is None else stop
         route = self.over(names, roads, start)
         place = roads.links[route[-1]].head if route else start
         return (*route, *(self.connectors(place, end, roads) or () if place is not None and end is not None else ()))
+
+    def begin(self, name: str, roads: Roads) -> str | None:
+        """The node of the case at which trips begin on a link of the source that has a beginning of its own; None where
+        it has none."""
+        link = self.known(name).link
+        tail = None if link is None else roads.links[link].tail
+        return tail if any(roads.links[part].head == tail for part in self.known(name).turns) else None
+
+    def stop(self, name: str, roads: Roads) -> str | None:
+        """The node of the case at which trips end on a link of the source that has an end of its own; None where it has
+        none."""
+        heads = [roads.links[link].head for link in self.known(name).turns]
+        node = self.nodes.get(self.known(name).head)
+        return next((head for head in heads if head != node and not roads.outs.get(head)), None)
 
     def over(self, names: Sequence[str], roads: Roads, place: str | None = None) -> list[str]:
         """The links of the case over links of the source, with the connectors between, and those from a node on where

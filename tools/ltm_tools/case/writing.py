@@ -3,10 +3,10 @@ import os
 from collections.abc import Iterable, Iterator, Sequence
 
 from ..errors import Fault
-from ..files import make_folder, write_lines, write_records
+from ..files import make_folder, write_bytes, write_lines, write_records
 from ..formats import DEMAND, HEADERS, SETUP, SPLITS, is_name, short_vehicles, weights_text
 from ..replacing import SETUP_FILE, together
-from .rows import Demand, Rows, Split
+from .rows import Demand, Limit, Rows, Split
 
 
 def demand_records(demand: Iterable[Demand]) -> Iterator[Sequence[object]]:
@@ -14,9 +14,14 @@ def demand_records(demand: Iterable[Demand]) -> Iterator[Sequence[object]]:
     return ([row.origin, row.destination, row.from_slot, row.to_slot, short_vehicles(row.units)] for row in demand)
 
 
-def split_records(splits: Iterable[Split]) -> Iterator[Sequence[object]]:
-    """The records of `splits.csv` behind its header."""
-    return ([row.node, row.destination, row.from_slot, weights_text(row.weights)] for row in splits)
+def split_line(row: Split) -> str:
+    """A record of `splits.csv`, without its end."""
+    return f"{row.node},{row.destination},{row.from_slot},{weights_text(row.weights)}"
+
+
+def write_split_lines(folder: str | os.PathLike[str], lines: Sequence[bytes]) -> None:
+    """Writes the `splits.csv` of a case whose records are lines already, with their ends."""
+    write_bytes(os.path.join(folder, "splits.csv"), b"".join((",".join(SPLITS).encode(), b"\n", *lines)))
 
 
 def write_demand(folder: str | os.PathLike[str], demand: Iterable[Demand]) -> None:
@@ -26,7 +31,16 @@ def write_demand(folder: str | os.PathLike[str], demand: Iterable[Demand]) -> No
 
 def write_splits(folder: str | os.PathLike[str], splits: Iterable[Split]) -> None:
     """Writes the `splits.csv` of a case."""
-    write_records(os.path.join(folder, "splits.csv"), SPLITS, split_records(splits))
+    write_lines(os.path.join(folder, "splits.csv"), SPLITS, map(split_line, splits))
+
+
+def write_limits(folder: str | os.PathLike[str], limits: Iterable[Limit], file: str = "limits") -> None:
+    """Writes the `limits.csv` of a case, or its `signals.csv`."""
+    write_lines(
+        os.path.join(folder, f"{file}.csv"),
+        HEADERS[file],
+        (f"{row.link},{row.from_slot},{row.to_slot},{short_vehicles(row.units)}" for row in limits),
+    )
 
 
 def write_rows(case: Rows, folder: str | os.PathLike[str]) -> None:
@@ -53,8 +67,6 @@ def write_rows(case: Rows, folder: str | os.PathLike[str]) -> None:
         ),
         "demand": demand_records(case.demand),
     }
-    if case.splits is not None:
-        rows["splits"] = split_records(case.splits)
     with together():
         make_folder(folder)
         write_records(
@@ -64,10 +76,8 @@ def write_rows(case: Rows, folder: str | os.PathLike[str]) -> None:
         )
         for file, lines in rows.items():
             write_records(os.path.join(folder, f"{file}.csv"), HEADERS[file], lines)
+        if case.splits is not None:
+            write_splits(folder, case.splits)
         for file, limits in (("signals", case.signals), ("limits", case.limits)):
             if file in more:
-                write_lines(
-                    os.path.join(folder, f"{file}.csv"),
-                    HEADERS[file],
-                    (f"{row.link},{row.from_slot},{row.to_slot},{short_vehicles(row.units)}" for row in limits),
-                )
+                write_limits(folder, limits, file)

@@ -30,6 +30,7 @@ from .imports import (
     add_crossing_arguments,
     add_network_arguments,
     add_od_arguments,
+    add_yielding_argument,
     network_options,
     run_import,
 )
@@ -49,7 +50,7 @@ def add_arguments(parser: argparse.ArgumentParser) -> None:
     parser.add_argument("network", help="the folder with link.csv and node.csv")
     parser.add_argument("case", help="the folder to write the case to")
     add_network_arguments(parser)
-    add_crossing_arguments(parser)
+    add_yielding_argument(add_crossing_arguments(parser))
     reading = parser.add_argument_group("what the network's fields mean")
     reading.add_argument(
         "--jam", type=above_0, default=Fraction(150), help="jam density of a lane in vehicles/km (default: 150)"

@@ -87,16 +87,19 @@ def add_net_arguments(group: argparse._ArgumentGroup) -> None:
     group.add_argument(
         "--ends",
         choices=("node", "edge"),
-        default="node",
         help=(
-            "where trips end: at the end node of their last edge, by whichever edge they come (node, default), or on "
-            "that very edge, which then gets a destination of its own (edge)"
+            "where trips end: on their last edge, which gets a destination of its own if others lead to the same node, "
+            "as far as a case takes so many (edge, default); or at the end node of that edge, by whichever edge they "
+            "come (node)"
         ),
     )
     group.add_argument(
         "--allow-losses",
         action="store_true",
-        help="make the case even if over 1 %% of the vehicles are left out, such as those not for cars",
+        help=(
+            "make the case even if over 1 %% of the vehicles are left out, such as those not for cars, or would wait "
+            "for ever before turns without any green"
+        ),
     )
     group.add_argument("--no-signals", action="store_true", help="leave out signals")
     group.add_argument(
@@ -166,7 +169,7 @@ def options_of(args: argparse.Namespace) -> SumoOptions:
         vehicle_class=args.vehicle_class,
         volumes=args.volumes,
         allow_losses=args.allow_losses,
-        ends=args.ends,
+        ends=args.ends or "edge",
         headway=args.headway,
         spacing=args.spacing,
     )

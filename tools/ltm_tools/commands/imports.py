@@ -173,6 +173,16 @@ def add_crossing_arguments(parser: argparse.ArgumentParser) -> argparse._Argumen
         ),
     )
     group.add_argument(
+        "--apart",
+        choices=("groups", "ends"),
+        default="groups",
+        help=(
+            "which nodes become several, so that nobody turns back where no turn leads back: groups (default), each "
+            "whose allowed turns fall apart into groups of links that do not meet, one node for each group; ends, dead "
+            "ends alone"
+        ),
+    )
+    group.add_argument(
         "--turn-length",
         type=whole,
         default=CrossingOptions.length_m,
@@ -222,29 +232,37 @@ def add_route_arguments(group: argparse._ArgumentGroup) -> None:
             " routes that do not change"
         ),
     )
-    group.add_argument(
-        "--yielding",
-        choices=("gaps", "none"),
-        default="gaps",
-        help=(
-            "how vehicles yield at junctions without lights whose turns are no links: gaps (default), an approach lets"
-            " pass what finds gaps in the counted traffic, and its vehicles wait for these; none, they do not yield,"
-            " and turns that are links have no gaps of their own at roundabouts and where the right comes first"
-        ),
+    add_yielding_argument(
+        group, ", and turns that are links have no gaps of their own at roundabouts and where the right comes first"
     )
     group.add_argument(
         "--origins",
-        choices=("edge", "node"),
+        choices=("edge", "turns", "node"),
         default="edge",
         help=(
-            "whether trips begin on the first link of their route (edge, default), or at its node, from which they "
-            "may take any link"
+            "where trips begin: on the first edge of their route, and leave by it, if it is long enough (edge, "
+            "default); the same at crossings whose turns are links, and elsewhere at the node of that edge (turns; "
+            "also with --entries none); or at the node everywhere, from which they may take any edge (node)"
         ),
     )
     group.add_argument(
         "--volumes",
         metavar="ROUTES",
         help="the vehicles by which traffic at crossings is counted (default: those of the case)",
+    )
+
+
+def add_yielding_argument(group: argparse._ArgumentGroup, more: str = "") -> None:
+    """The argument on approaches that yield as a whole; and what else `none` means."""
+    group.add_argument(
+        "--yielding",
+        choices=("gaps", "none"),
+        default="gaps",
+        help=(
+            "how vehicles yield at junctions without lights whose turns are no links: gaps (default), an approach lets"
+            f" pass what finds gaps in the counted traffic, and its vehicles wait for these; none, they do not yield"
+            f"{more}"
+        ),
     )
 
 
@@ -282,12 +300,14 @@ def crossing_options(args: argparse.Namespace) -> CrossingOptions:
     made = CrossingOptions(
         turns=args.turns if args.turns in words else names,
         length_m=args.turn_length,
+        apart=args.apart == "groups",
         saturation=args.saturation,
         permissive=args.permissive or args.gap or GapAcceptance(),
+        yielding=args.yielding == "gaps",
     )
     if not hasattr(args, "lanes"):
         return made
-    return replace(made, lanes=args.lanes, origins=args.origins, yielding=args.yielding == "gaps")
+    return replace(made, lanes=args.lanes, origins=args.origins)
 
 
 def network_options(args: argparse.Namespace) -> dict[str, Any]:

@@ -4,8 +4,8 @@ from __future__ import annotations
 
 import argparse
 import os
-import sys
 from collections.abc import Mapping, Sequence
+from fractions import Fraction
 from itertools import accumulate
 from pathlib import Path
 
@@ -19,12 +19,13 @@ from ..files import output_folder
 from ..formats import UNITS, counted, exact_or_none, many
 from ..listing import HOURS
 from ..replacing import together
+from ..scenario.open import OpenCase
 from ..sumo.net import Program
 from ..sumo.programs import programs_of
 from ..sumo.signals import cycle_of
-from ..timing.optimising import Signalled, Wanted, searching, signalled
+from ..timing.optimising import RESERVE, Signalled, Wanted, searching, signalled
 from ..timing.result import CYCLES_FILE, PROGRAMS_FILE, programs_text, timed, write_programs, write_result
-from ..timing.search import LEVELS, Search
+from ..timing.search import LEAST_PART, LEVELS, Search
 from ..timing.stages import Controller
 from ..timing.trying import Plan
 from .arguments import add_program_argument, add_table_arguments, clock, reading_of, whole
@@ -47,6 +48,7 @@ With --optimise the plans in turns.csv are changed junction by junction, and wha
 kept; the routes stay. docs/IMPROVE.md says more."""
 
 MOST_NAMED = 8
+MOST_RESERVE = Fraction(1, 2)
 
 
 def add_arguments(parser: argparse.ArgumentParser) -> None:
@@ -86,6 +88,20 @@ def add_search_arguments(parser: "argparse._ArgumentGroup") -> None:
     parser.add_argument(
         "--least-green", metavar="SECONDS", type=milliseconds, default=5000, help="how short a green may be (5)"
     )
+    parser.add_argument(
+        "--least-saving",
+        metavar="PERCENT",
+        type=per_cent,
+        default=LEAST_PART,
+        help="what a change of a junction has to save, of the total travel time over the number of junctions (5)",
+    )
+    parser.add_argument(
+        "--reserve",
+        metavar="PERCENT",
+        type=reserve,
+        default=RESERVE,
+        help="how much less stop lines let through where plans are judged, so that none just suffices (10)",
+    )
     parser.add_argument("--keep", metavar="NODE", nargs="+", default=[], help="junctions whose plans stay")
     parser.add_argument(
         "--cycle", metavar="SECONDS", nargs="+", type=milliseconds, default=[], help="common cycles to try as well"
@@ -111,6 +127,22 @@ def milliseconds(text: str) -> int:
     if seconds is None or seconds <= 0:
         raise argparse.ArgumentTypeError(f"{text} is no number of seconds above 0")
     return int(seconds * UNITS)
+
+
+def per_cent(text: str) -> Fraction:
+    """A part in per cent, 0 or more."""
+    number = exact_or_none(text.removesuffix("%"))
+    if number is None or not 0 <= number <= 100:
+        raise argparse.ArgumentTypeError(f"{text} is no part in per cent, from 0 to 100")
+    return number / 100
+
+
+def reserve(text: str) -> Fraction:
+    """A part in per cent that a stop line can do without."""
+    found = per_cent(text)
+    if found > MOST_RESERVE:
+        raise argparse.ArgumentTypeError(f"{text} is no reserve in per cent, from 0 to {MOST_RESERVE * 100}")
+    return found
 
 
 def run(args: argparse.Namespace) -> int:
@@ -144,13 +176,15 @@ def optimise(args: argparse.Namespace) -> int:
         programs = programs_of(args.sumo) if args.sumo else {}
         found = signalled(args.case, args.program, controllers_of(programs))
         check_names(args.keep, found)
-        wanted = Wanted(args.least_green, args.keep, args.cycle, args.wave)
-        with searching(found, wanted, args.program, args.sessions) as (search, counted_spent):
-            print(f"as it is: {hours(found.spent)}, with yields counted in this loading {hours(counted_spent)}")
+        wanted = Wanted(args.least_green, args.least_saving, args.keep, args.cycle, args.wave, args.reserve)
+        with searching(found, wanted, args.program, args.sessions) as (search, judged_spent):
+            print(f"as it is: {hours(found.spent)}, with the reserve {hours(judged_spent)}")
             print(f"begins with {hours(search.spent)}", flush=True)
             climb(search, found, args.rounds)
         write(args, found, {**found.plan, **search.plan}, programs)
-    print(f"{hours(search.spent)} in place of {hours(found.spent)}; {args.to} has the case, {CYCLES_FILE} its plans")
+    with OpenCase(args.to, args.program) as opened:
+        spent = opened.session.delay().spent
+    print(f"{hours(spent)} in place of {hours(found.spent)}; {args.to} has the case, {CYCLES_FILE} its plans")
     if args.sumo:
         print(f"{args.to}/{PROGRAMS_FILE} has them for SUMO, as a further additional file")
     return 0
@@ -185,14 +219,14 @@ def write(args: argparse.Namespace, found: Signalled, plan: Plan, programs: Mapp
 def climb(search: Search, found: Signalled, rounds: int) -> None:
     """Runs the rounds, each told as it is done; an interrupt ends them, and the best is kept."""
     try:
-        for one in search.run(found.delays, rounds):
+        for one in search.run(rounds):
             print(
                 f"round {one.number}: {hours(one.spent)}, {counted(one.changed, 'junction')} of"
                 f" {len(search.junctions)} changed, {one.loadings} loadings",
                 flush=True,
             )
     except KeyboardInterrupt:
-        print("interrupted: the best plans so far are kept", file=sys.stderr)
+        print("stopped: the best so far is kept", flush=True)
 
 
 def hours(time: int) -> str:

@@ -75,7 +75,14 @@ def run(args: argparse.Namespace) -> int:
     print(f"{many(len(case.signals), 'record')} of signals")
     print(
         *found.notes,
-        *turns_told(made.turns.turns, made.turns.volumes, roads.links, case.setup, read_streets(args.case)),
+        *turns_told(
+            made.turns.turns,
+            made.turns.volumes,
+            roads.links,
+            case.setup,
+            read_streets(args.case),
+            sum(row.units for row in case.demand),
+        ),
         sep="\n",
     )
     return 0
