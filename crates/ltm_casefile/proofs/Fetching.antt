@@ -9,7 +9,7 @@ use Rattle.ltm_io.specs.Folder.{Files}
 use Rattle.ltm_scenario.specs.Build.{◌>>=◌}
 use Rattle.ltm_records.specs.Left.{records_of}
 use Rattle.ltm_casefile.specs.declared.faults.CaseFault.{CaseFault}
-use Rattle.ltm_casefile.specs.declared.faults.CaseFault.TheVariants.{Folder, TooLong, Bad, NoMemory}
+use Rattle.ltm_casefile.specs.declared.faults.CaseFault.TheVariants.{Folder, TooLong, Bad, NoHistory, NoMemory}
 use Rattle.ltm_casefile.specs.declared.setup.Asked.{Asked}
 use Rattle.ltm_casefile.specs.declared.setup.Opened.{Opened}
 use Rattle.ltm_casefile.specs.Case.{CaseTexts, texts_of, limit_texts_of, parts_of, opened_of, asked_by, is_of_each, is_asked, asks_for}
@@ -22,6 +22,7 @@ pub not_given : (P Q : Doc → Type 0) (e : CaseFault) → ((d : Doc) → P d �
 not_given P Q (Folder f) more holds = elim (doc_of f) as (λ o. IsSomeAnd o P → IsSomeAnd o Q) [ None ↦ λ no. no | Some d ↦ λ h. more d h ] holds
 not_given P Q (TooLong f) more holds = tt
 not_given P Q (Bad f row cause) more holds = tt
+not_given P Q NoHistory more holds = tt
 not_given P Q NoMemory more holds = tt
 
 -- what rose since a later moment rose since an earlier one
@@ -42,6 +43,7 @@ limits_fault : (files : Files) (texts : CaseTexts) (opened : Opened) (e : CaseFa
 limits_fault files texts opened (Folder f) there is said = tt
 limits_fault files texts opened (TooLong f) there is said = parts_from files texts opened there is ∙ ap (λ r. r >>= λ limits. Ok (record { scenario = opened.scenario; texts = texts; limits = limits })) said
 limits_fault files texts opened (Bad f row cause) there is said = parts_from files texts opened there is ∙ ap (λ r. r >>= λ limits. Ok (record { scenario = opened.scenario; texts = texts; limits = limits })) said
+limits_fault files texts opened NoHistory there is said = parts_from files texts opened there is ∙ ap (λ r. r >>= λ limits. Ok (record { scenario = opened.scenario; texts = texts; limits = limits })) said
 limits_fault files texts opened NoMemory there is said = tt
 
 -- the files that the setup asks for are those that are asked for

@@ -4,7 +4,7 @@ use Rattle.std.specs.Prelude.{codes, if◌then◌else◌}
 use Rattle.std.proofs.lemmas.Bool.{eqb-true}
 use Rattle.ltm_records.specs.Fields.{Fields, field, has, same}
 use Rattle.ltm_casefile.specs.declared.columns.Columns.{Columns}
-use Rattle.ltm_casefile.specs.Columns.{one_if, limits_field, cells_field, rows_field, links_field, destinations_field, moves_field, carry_field, width_of, columns_of, is_setup_header}
+use Rattle.ltm_casefile.specs.Columns.{one_if, limits_field, cells_field, rows_field, links_field, destinations_field, moves_field, carry_field, history_field, width_of, columns_of, is_setup_header}
 use Rattle.ltm_casefile.specs.Headers.{if_there, header_of, HeadersAreTaken, ColumnsAreAtTheirNames}
 
 -- ---- all columns: a test that each passes
@@ -29,33 +29,44 @@ agreed true false h = absurd cc
 agreed false true h = absurd cc
 agreed false false h = refl
 
-abbrev with : Bool → Bool → Bool → Bool → Bool → Bool → Bool → Bool → Columns
-with signals limits cells rows links destinations moves carry =
-    record { signals = signals; limits = limits; cells = cells; rows = rows; links = links; destinations = destinations; moves = moves; carry = carry }
+abbrev with : Bool → Bool → Bool → Bool → Bool → Bool → Bool → Bool → Bool → Columns
+with signals limits cells rows links destinations moves carry history =
+    record {
+      signals = signals;
+      limits = limits;
+      cells = cells;
+      rows = rows;
+      links = links;
+      destinations = destinations;
+      moves = moves;
+      carry = carry;
+      history = history;
+    }
 
 abbrev is_read : Columns → Columns → Bool
 is_read c r =
     agree r.signals c.signals && (agree r.limits c.limits && (agree r.cells c.cells && (agree r.rows c.rows && (agree r.links c.links
-    && (agree r.destinations c.destinations && (agree r.moves c.moves && agree r.carry c.carry))))))
+    && (agree r.destinations c.destinations && (agree r.moves c.moves && (agree r.carry c.carry && agree r.history c.history)))))))
 
 abbrev taken_as : Columns → Bool
 taken_as c = is_setup_header (header_of c) && is_read c (columns_of (header_of c))
 
 -- what holds of all columns, found by trying them
 abbrev all : (Columns → Bool) → Bool
-all f = each (λ s. each (λ t. each (λ u. each (λ v. each (λ w. each (λ x. each (λ y. each (λ z. f (with s t u v w x y z)))))))))
+all f = each (λ r. each (λ s. each (λ t. each (λ u. each (λ v. each (λ w. each (λ x. each (λ y. each (λ z. f (with r s t u v w x y z))))))))))
 
 one : (f : Columns → Bool) → all f ≡ true → (c : Columns) → f c ≡ true
 one f h c =
-    passes (λ z. f (with c.signals c.limits c.cells c.rows c.links c.destinations c.moves z))
-    (passes (λ y. each (λ z. f (with c.signals c.limits c.cells c.rows c.links c.destinations y z)))
-    (passes (λ x. each (λ y. each (λ z. f (with c.signals c.limits c.cells c.rows c.links x y z))))
-    (passes (λ w. each (λ x. each (λ y. each (λ z. f (with c.signals c.limits c.cells c.rows w x y z)))))
-    (passes (λ v. each (λ w. each (λ x. each (λ y. each (λ z. f (with c.signals c.limits c.cells v w x y z))))))
-    (passes (λ u. each (λ v. each (λ w. each (λ x. each (λ y. each (λ z. f (with c.signals c.limits u v w x y z)))))))
-    (passes (λ t. each (λ u. each (λ v. each (λ w. each (λ x. each (λ y. each (λ z. f (with c.signals t u v w x y z))))))))
-    (passes (λ s. each (λ t. each (λ u. each (λ v. each (λ w. each (λ x. each (λ y. each (λ z. f (with s t u v w x y z)))))))))
-    h c.signals) c.limits) c.cells) c.rows) c.links) c.destinations) c.moves) c.carry
+    passes (λ z. f (with c.signals c.limits c.cells c.rows c.links c.destinations c.moves c.carry z))
+    (passes (λ y. each (λ z. f (with c.signals c.limits c.cells c.rows c.links c.destinations c.moves y z)))
+    (passes (λ x. each (λ y. each (λ z. f (with c.signals c.limits c.cells c.rows c.links c.destinations x y z))))
+    (passes (λ w. each (λ x. each (λ y. each (λ z. f (with c.signals c.limits c.cells c.rows c.links w x y z)))))
+    (passes (λ v. each (λ w. each (λ x. each (λ y. each (λ z. f (with c.signals c.limits c.cells c.rows v w x y z))))))
+    (passes (λ u. each (λ v. each (λ w. each (λ x. each (λ y. each (λ z. f (with c.signals c.limits c.cells u v w x y z)))))))
+    (passes (λ t. each (λ u. each (λ v. each (λ w. each (λ x. each (λ y. each (λ z. f (with c.signals c.limits t u v w x y z))))))))
+    (passes (λ s. each (λ t. each (λ u. each (λ v. each (λ w. each (λ x. each (λ y. each (λ z. f (with c.signals s t u v w x y z)))))))))
+    (passes (λ r. each (λ s. each (λ t. each (λ u. each (λ v. each (λ w. each (λ x. each (λ y. each (λ z. f (with r s t u v w x y z))))))))))
+    h c.signals) c.limits) c.cells) c.rows) c.links) c.destinations) c.moves) c.carry) c.history
 
 all_taken : all taken_as ≡ true
 unfolding columns_of
@@ -75,7 +86,8 @@ same_columns c r h =
     let p4 = and_both (agree r.rows c.rows) _ p3.1 in
     let p5 = and_both (agree r.links c.links) _ p4.1 in
     let p6 = and_both (agree r.destinations c.destinations) _ p5.1 in
-    let p7 = and_both (agree r.moves c.moves) (agree r.carry c.carry) p6.1 in
+    let p7 = and_both (agree r.moves c.moves) _ p6.1 in
+    let p8 = and_both (agree r.carry c.carry) (agree r.history c.history) p7.1 in
     let signals = agreed r.signals c.signals p1.0 in
     let limits = agreed r.limits c.limits p2.0 in
     let cells = agreed r.cells c.cells p3.0 in
@@ -83,9 +95,10 @@ same_columns c r h =
     let links = agreed r.links c.links p5.0 in
     let destinations = agreed r.destinations c.destinations p6.0 in
     let moves = agreed r.moves c.moves p7.0 in
-    let carry = agreed r.carry c.carry p7.1 in
-    let all_same : with r.signals r.limits r.cells r.rows r.links r.destinations r.moves r.carry ≡ with c.signals c.limits c.cells c.rows c.links c.destinations c.moves c.carry =
-    rw (signals, limits, cells, rows, links, destinations, moves, carry) refl in
+    let carry = agreed r.carry c.carry p8.0 in
+    let history = agreed r.history c.history p8.1 in
+    let all_same : with r.signals r.limits r.cells r.rows r.links r.destinations r.moves r.carry r.history ≡ with c.signals c.limits c.cells c.rows c.links c.destinations c.moves c.carry c.history =
+    rw (signals, limits, cells, rows, links, destinations, moves, carry, history) refl in
     all_same
 
 -- ---- a header that is taken, name by name
@@ -148,10 +161,12 @@ written fields h =
     let destinations_at : ℕ = links_at + one_if c.links in
     let moves_at : ℕ = destinations_at + one_if c.destinations in
     let carry_at : ℕ = moves_at + one_if c.moves in
-    let width : length fields ≡ carry_at + one_if c.carry = eqb-true (length fields) (width_of c) p2.1 in
-    let end : drop (carry_at + one_if c.carry) fields ≡ [] = past_end fields (carry_at + one_if c.carry) width in
-    let e8 : drop carry_at fields ≡ if_there c.carry (codes "carry") = next fields carry_at _ _ ∙ ap (λ (z : Fields). if_there c.carry (codes "carry") ++ z) end ∙ append_none (if_there c.carry (codes "carry")) in
-    let e7 : drop moves_at fields ≡ if_there c.moves (codes "moves") ++ if_there c.carry (codes "carry") = next fields moves_at _ _ ∙ ap (λ (z : Fields). if_there c.moves (codes "moves") ++ z) e8 in
+    let history_at : ℕ = carry_at + one_if c.carry in
+    let width : length fields ≡ history_at + one_if c.history = eqb-true (length fields) (width_of c) p2.1 in
+    let end : drop (history_at + one_if c.history) fields ≡ [] = past_end fields (history_at + one_if c.history) width in
+    let e9 : drop history_at fields ≡ if_there c.history (codes "history") = next fields history_at _ _ ∙ ap (λ (z : Fields). if_there c.history (codes "history") ++ z) end ∙ append_none (if_there c.history (codes "history")) in
+    let e8 = next fields carry_at _ _ ∙ ap (λ (z : Fields). if_there c.carry (codes "carry") ++ z) e9 in
+    let e7 = next fields moves_at _ _ ∙ ap (λ (z : Fields). if_there c.moves (codes "moves") ++ z) e8 in
     let e6 = next fields destinations_at _ _ ∙ ap (λ (z : Fields). if_there c.destinations (codes "destinations") ++ z) e7 in
     let e5 = next fields links_at _ _ ∙ ap (λ (z : Fields). if_there c.links (codes "links") ++ z) e6 in
     let e4 = next fields rows_at _ _ ∙ ap (λ (z : Fields). if_there c.rows (codes "rows") ++ z) e5 in
@@ -178,7 +193,7 @@ all_named c =
     named c 3 (codes "signals") c.signals && (named c (limits_field c - 1) (codes "limits") c.limits && (named c (cells_field c - 1) (codes "cells") c.cells
     && (named c (rows_field c - 1) (codes "rows") c.rows && (named c (links_field c - 1) (codes "links") c.links
     && (named c (destinations_field c - 1) (codes "destinations") c.destinations && (named c (moves_field c - 1) (codes "moves") c.moves
-    && named c (carry_field c - 1) (codes "carry") c.carry))))))
+    && (named c (carry_field c - 1) (codes "carry") c.carry && named c (history_field c - 1) (codes "history") c.history)))))))
 
 every_named : all all_named ≡ true
 every_named = refl
@@ -196,7 +211,8 @@ columns_are_at_their_names c =
     let p4 = and_both (named c (rows_field c - 1) (codes "rows") c.rows) _ p3.1 in
     let p5 = and_both (named c (links_field c - 1) (codes "links") c.links) _ p4.1 in
     let p6 = and_both (named c (destinations_field c - 1) (codes "destinations") c.destinations) _ p5.1 in
-    let p7 = and_both (named c (moves_field c - 1) (codes "moves") c.moves) (named c (carry_field c - 1) (codes "carry") c.carry) p6.1 in
+    let p7 = and_both (named c (moves_field c - 1) (codes "moves") c.moves) _ p6.1 in
+    let p8 = and_both (named c (carry_field c - 1) (codes "carry") c.carry) (named c (history_field c - 1) (codes "history") c.history) p7.1 in
     record {
       signals = stands c 3 (codes "signals") c.signals p1.0;
       limits = stands c (limits_field c - 1) (codes "limits") c.limits p2.0;
@@ -205,5 +221,6 @@ columns_are_at_their_names c =
       links = stands c (links_field c - 1) (codes "links") c.links p5.0;
       destinations = stands c (destinations_field c - 1) (codes "destinations") c.destinations p6.0;
       moves = stands c (moves_field c - 1) (codes "moves") c.moves p7.0;
-      carry = stands c (carry_field c - 1) (codes "carry") c.carry p7.1;
+      carry = stands c (carry_field c - 1) (codes "carry") c.carry p8.0;
+      history = stands c (history_field c - 1) (codes "history") c.history p8.1;
     }

@@ -3,3 +3,4 @@ pub mod Headers
 pub mod Memory
 pub mod Places
 pub mod Unsplit
+pub mod Keeping

@@ -1,5 +1,5 @@
 -- What the definitions of a case tell is never the network's want of memory.
-use Rattle.std.proofs.Common.{◌≡◌, ℕ, ◌+◌, ◌==◌, List, [], ◌∷◌, Bool, true, false, Result, Ok, Err, Option, Some, None, refl, subst}
+use Rattle.std.proofs.Common.{◌≡◌, ℕ, ◌+◌, ◌==◌, List, [], ◌∷◌, Bool, true, false, Result, Ok, Err, Option, Some, None, refl, ap, subst}
 use Rattle.std.specs.Prelude.{option_and_then, IfErr, if◌then◌else◌, is_some, not, nat_le, nat_lt, length, sum}
 use Rattle.std.specs.List.{list_all}
 use Rattle.ltm_units.specs.Results.{refuse, found}
@@ -18,7 +18,7 @@ use Rattle.ltm_scenario.specs.Reads.{has_no_out_link}
 use Rattle.ltm_scenario.specs.Edits.{is_out_link, weights_at}
 use Rattle.ltm_splits.specs.Rows.{key_of}
 use Rattle.ltm_scenario.specs.Check.{Checked, checked}
-use Rattle.ltm_units.specs.Bounds.{default_demand_rows, default_split_rows, default_links, default_destinations}
+use Rattle.ltm_units.specs.Bounds.{longest_file, default_demand_rows, default_split_rows, default_links, default_destinations}
 use Rattle.ltm_scenario.specs.Setup.{setup_checked, default_cells}
 use Rattle.ltm_scenario.specs.declared.side.Side.{Side}
 use Rattle.ltm_scenario.specs.declared.side.Side.TheVariants as side
@@ -31,7 +31,7 @@ use Rattle.ltm_records.specs.Left.{records_of}
 use Rattle.ltm_casefile.specs.declared.faults.CaseCause.{CaseCause}
 use Rattle.ltm_casefile.specs.declared.faults.CaseCause.TheVariants as cause
 use Rattle.ltm_casefile.specs.declared.faults.CaseFault.{CaseFault}
-use Rattle.ltm_casefile.specs.declared.faults.CaseFault.TheVariants.{Folder, TooLong, Bad, NoMemory}
+use Rattle.ltm_casefile.specs.declared.faults.CaseFault.TheVariants.{Folder, TooLong, Bad, NoHistory, NoMemory}
 use Rattle.ltm_casefile.specs.declared.faults.File.{File}
 use Rattle.ltm_casefile.specs.declared.faults.File.TheVariants as file
 use Rattle.ltm_casefile.specs.declared.tables.Table.{Table}
@@ -44,14 +44,15 @@ use Rattle.ltm_casefile.specs.declared.splits.SplitRecord.{SplitRecord}
 use Rattle.ltm_casefile.specs.Causes.{taken}
 use Rattle.ltm_casefile.specs.Rows.{at_row, rows_from, below_header}
 use Rattle.ltm_casefile.specs.Fields.{has_width, name_in, number_in, amount_in, weights_in}
-use Rattle.ltm_casefile.specs.Setup.{number_if, setup_record, flags_checked, in_range, opened, setup_read, only_row, setup_of}
-use Rattle.ltm_casefile.specs.Columns.{limits_field, cells_field, rows_field, links_field, destinations_field, moves_field, carry_field, width_of, columns_of, is_setup_header}
+use Rattle.ltm_casefile.specs.Setup.{number_if, setup_record, flags_checked, rules_checked, in_range, opened, setup_read, only_row, setup_of, asks_for_many, longest_beside}
+use Rattle.ltm_casefile.specs.Columns.{limits_field, cells_field, rows_field, links_field, destinations_field, moves_field, carry_field, history_field, width_of, columns_of, is_setup_header}
 use Rattle.ltm_casefile.specs.Links.{link_record, cause_of_link, link_added}
 use Rattle.ltm_casefile.specs.Links as links
 use Rattle.ltm_casefile.specs.Demand.{demand_record, demand_ends, demand_row, place_of, with_demand_record, demand_added}
 use Rattle.ltm_casefile.specs.Splits.{split_record, split_ends, with_split_record, split_added}
 use Rattle.ltm_casefile.specs.SideLimits.{limit_record, with_limit_record, limit_added}
-use Rattle.ltm_casefile.specs.Folder.{sized, doc_of, text_of}
+use Rattle.ltm_casefile.specs.Folder.{sized, doc_of, text_of, text_within, longest_large_file}
+use Rattle.ltm_casefile.specs.declared.setup.Opened.{Opened}
 use Rattle.ltm_casefile.specs.Tables.{table_added, rows_added, row_added, heads, file_of, with_file, with_file_if}
 use Rattle.ltm_casefile.specs.Case.{texts_of, text_if, limit_texts_of, limited, filled, sound, whole, CaseTexts, LimitTexts, CaseParts, parts_of, built, case_of}
 use Rattle.ltm_casefile.specs.Roads.{RoadTexts, road_texts_of, roads_filled, roads_in, unsplit_case_of}
@@ -253,17 +254,22 @@ setup_record_clean columns fields =
     then_clean (number_if columns.links default_links fields (links_field columns)) _ (number_clean columns.links default_links fields (links_field columns)) (λ links.
     then_clean (number_if columns.destinations default_destinations fields (destinations_field columns)) _ (number_clean columns.destinations default_destinations fields (destinations_field columns)) (λ destinations.
     then_clean (number_if columns.moves 0 fields (moves_field columns)) _ (number_clean columns.moves 0 fields (moves_field columns)) (λ moves.
-    then_clean (number_if columns.carry 0 fields (carry_field columns)) _ (number_clean columns.carry 0 fields (carry_field columns)) (λ carry. fine _ _)))))))))))))
+    then_clean (number_if columns.carry 0 fields (carry_field columns)) _ (number_clean columns.carry 0 fields (carry_field columns)) (λ carry.
+    then_clean (number_if columns.history 1 fields (history_field columns)) _ (number_clean columns.history 1 fields (history_field columns)) (λ history. fine _ _))))))))))))))
 
 flags_clean : (columns : Columns) (r : SetupRecord) → Clean (flags_checked columns r)
 flags_clean columns r =
     then_clean (refuse (nat_lt 1 r.signals) (cause.Range 4)) _ (refused (nat_lt 1 r.signals) (cause.Range 4) tt) (λ _.
     refused (nat_lt 1 r.limits) (cause.Range (limits_field columns)) tt)
 
-in_range_clean : (columns : Columns) (r : SetupRecord) (checked : Result (Unit {0}) SetupFault) → Clean (in_range columns r checked)
-in_range_clean columns r (Ok x) = then_clean (flags_checked columns r) _ (flags_clean columns r) (λ _.
+rules_clean : (columns : Columns) (r : SetupRecord) → Clean (rules_checked columns r)
+rules_clean columns r =
     then_clean (refuse (nat_lt 1 r.moves) (cause.Range (moves_field columns))) _ (refused (nat_lt 1 r.moves) (cause.Range (moves_field columns)) tt) (λ _.
-    refused (nat_lt 1 r.carry) (cause.Range (carry_field columns)) tt))
+    then_clean (refuse (nat_lt 1 r.carry) (cause.Range (carry_field columns))) _ (refused (nat_lt 1 r.carry) (cause.Range (carry_field columns)) tt) (λ _.
+    refused (nat_lt 1 r.history) (cause.Range (history_field columns)) tt))
+
+in_range_clean : (columns : Columns) (r : SetupRecord) (checked : Result (Unit {0}) SetupFault) → Clean (in_range columns r checked)
+in_range_clean columns r (Ok x) = then_clean (flags_checked columns r) _ (flags_clean columns r) (λ _. rules_clean columns r)
 in_range_clean columns r (Err (setup_fault.Range field)) = wrong IsNoWant _ tt
 in_range_clean columns r (Err setup_fault.MostCells) = then_clean (flags_checked columns r) _ (flags_clean columns r) (λ _. wrong IsNoWant _ tt)
 in_range_clean columns r (Err setup_fault.MostRows) = then_clean (flags_checked columns r) _ (flags_clean columns r) (λ _. wrong IsNoWant _ tt)
@@ -314,29 +320,32 @@ unfolding setup_of
 setup_hides rows = header_hides file.Setup is_setup_header _ (λ header rest. only_row_hides (columns_of header) rest) rows
 
 -- ---- the files
-sized_hides : (f : File) (o : Option (List ℕ)) → Hides (sized f o)
-sized_hides f None = wrong HidesNoMemory _ tt
-sized_hides f (Some bytes) = chosen _
+sized_hides : (most : ℕ) (f : File) (o : Option (List ℕ)) → Hides (sized most f o)
+sized_hides most f None = wrong HidesNoMemory _ tt
+sized_hides most f (Some bytes) = chosen _
   where
     chosen : (b : Bool) → Told {A = List ℕ} HidesNoMemory (if b then Ok bytes else Err (TooLong f))
     chosen true = fine HidesNoMemory bytes
     chosen false = wrong HidesNoMemory _ tt
 
+within_hides : (most : ℕ) (files : Files) (f : File) → Hides (text_within most files f)
+within_hides most files f = sized_hides most f (option_and_then files (doc_of f))
+
 text_hides : (files : Files) (f : File) → Hides (text_of files f)
-text_hides files f = sized_hides f (option_and_then files (doc_of f))
+text_hides files f = within_hides longest_file files f
 
 road_texts_hide : (files : Files) → Hides (road_texts_of files)
 unfolding road_texts_of
 road_texts_hide files =
     then_hides (text_of files file.Setup) _ (text_hides files file.Setup) (λ setup.
     then_hides (text_of files file.Links) _ (text_hides files file.Links) (λ links.
-    then_hides (text_of files file.Demand) _ (text_hides files file.Demand) (λ demand. fine HidesNoMemory (record { setup = setup; links = links; demand = demand }))))
+    then_hides (text_within (longest_beside setup) files file.Demand) _ (within_hides (longest_beside setup) files file.Demand) (λ demand. fine HidesNoMemory (record { setup = setup; links = links; demand = demand }))))
 
 texts_hide : (files : Files) → Hides (texts_of files)
 unfolding texts_of
 texts_hide files =
     then_hides (road_texts_of files) _ (road_texts_hide files) (λ roads.
-    then_hides (text_of files file.Splits) _ (text_hides files file.Splits) (λ splits. fine HidesNoMemory (record { roads = roads; splits = splits })))
+    then_hides (text_within (longest_beside roads.setup) files file.Splits) _ (within_hides (longest_beside roads.setup) files file.Splits) (λ splits. fine HidesNoMemory (record { roads = roads; splits = splits })))
 
 text_if_hides : (asked : Bool) (files : Files) (f : File) → Hides (text_if asked files f)
 text_if_hides true files f = then_hides (text_of files f) _ (text_hides files f) (λ bytes. fine _ _)
@@ -401,10 +410,20 @@ said : {A : Type 0} (r : Result A CaseFault) (e : CaseFault) → Hides r → Say
 said r (Folder f) hides says = absurd says
 said r (TooLong f) hides says = absurd says
 said r (Bad f row c) hides says = hides (Bad f row c) says
+said r NoHistory hides says = hides NoHistory says
 said r NoMemory hides says = tt
 
 pub setup_said : (rows : List Fields) (e : CaseFault) → Says (setup_of rows) e → HidesNoMemory e
 setup_said rows e says = said (setup_of rows) e (setup_hides rows) says
+
+-- a setup that is none asks for no more bytes
+pub beside_bad : (setup : List ℕ) (e : CaseFault) → Says (setup_of (records_of setup)) e → (e ≡ NoMemory → ⊥) → longest_beside setup ≡ longest_file
+unfolding longest_beside
+beside_bad setup (Folder f) says some = absurd says
+beside_bad setup (TooLong f) says some = absurd says
+beside_bad setup (Bad f row c) says some = ap (λ (r : Result Opened CaseFault). if asks_for_many r then longest_large_file else longest_file) says
+beside_bad setup NoHistory says some = ap (λ (r : Result Opened CaseFault). if asks_for_many r then longest_large_file else longest_file) says
+beside_bad setup NoMemory says some = absurd (some refl)
 
 pub built_said : (parts : CaseParts) (e : CaseFault) → Says (built parts) e → HidesNoMemory e
 built_said parts e says = said (built parts) e (built_hides parts) says

@@ -18,8 +18,8 @@ use Rattle.ltm_casefile.specs.declared.faults.File.{File}
 use Rattle.ltm_casefile.specs.declared.setup.Asked.{Asked}
 use Rattle.ltm_casefile.specs.declared.setup.Opened.{Opened}
 use Rattle.ltm_casefile.specs.declared.tables.Table.TheVariants as table
-use Rattle.ltm_casefile.specs.Setup.{setup_of}
-use Rattle.ltm_casefile.specs.Folder.{text_of}
+use Rattle.ltm_casefile.specs.Setup.{setup_of, longest_beside}
+use Rattle.ltm_casefile.specs.Folder.{text_of, text_within}
 use Rattle.ltm_casefile.specs.Tables.{with_file, with_file_if}
 use Rattle.ltm_casefile.specs.Roads.{RoadTexts, road_texts_of, roads_filled, is_of_roads}
 
@@ -31,7 +31,7 @@ pub record CaseTexts : Type 0 where
 unfoldable pub texts_of : Files → Result CaseTexts CaseFault
 texts_of files =
     road_texts_of files >>= λ roads.
-    text_of files file.Splits >>= λ splits.
+    text_within (longest_beside roads.setup) files file.Splits >>= λ splits.
     Ok (record { roads = roads; splits = splits })
 
 -- the bytes of the signals and of the entry limits, each where the setup asks for them

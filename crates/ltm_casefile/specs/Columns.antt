@@ -1,5 +1,5 @@
 -- The header of a setup: three columns, and then any of signals, limits, cells, rows, links, destinations,
--- moves and carry, in this order.
+-- moves, carry and history, in this order.
 use Rattle.std.specs.Prelude.{ℕ, ◌+◌, ◌==◌, ◌&&◌, codes, Bool, if◌then◌else◌, length}
 use Rattle.ltm_records.specs.Fields.{Fields, has}
 use Rattle.ltm_casefile.specs.declared.columns.Columns.{Columns}
@@ -30,11 +30,14 @@ moves_field c = destinations_field c + one_if c.destinations
 abbrev pub carry_field : Columns → ℕ
 carry_field c = moves_field c + one_if c.moves
 
+abbrev pub history_field : Columns → ℕ
+history_field c = carry_field c + one_if c.carry
+
 -- how many fields a record has
 abbrev pub width_of : Columns → ℕ
-width_of c = 3 + one_if c.signals + one_if c.limits + one_if c.cells + one_if c.rows + one_if c.links + one_if c.destinations + one_if c.moves + one_if c.carry
+width_of c = 3 + one_if c.signals + one_if c.limits + one_if c.cells + one_if c.rows + one_if c.links + one_if c.destinations + one_if c.moves + one_if c.carry + one_if c.history
 
--- which of the eight a header has
+-- which of the nine a header has
 unfoldable pub columns_of : Fields → Columns
 columns_of fields =
     let signals = has fields 3 (codes "signals") in
@@ -50,8 +53,20 @@ columns_of fields =
     let destinations = has fields destinations_at (codes "destinations") in
     let moves_at = destinations_at + one_if destinations in
     let moves = has fields moves_at (codes "moves") in
-    let carry = has fields (moves_at + one_if moves) (codes "carry") in
-    record { signals = signals; limits = limits; cells = cells; rows = rows; links = links; destinations = destinations; moves = moves; carry = carry }
+    let carry_at = moves_at + one_if moves in
+    let carry = has fields carry_at (codes "carry") in
+    let history = has fields (carry_at + one_if carry) (codes "history") in
+    record {
+      signals = signals;
+      limits = limits;
+      cells = cells;
+      rows = rows;
+      links = links;
+      destinations = destinations;
+      moves = moves;
+      carry = carry;
+      history = history;
+    }
 
 -- a header has no other column
 abbrev pub is_setup_header : Fields → Bool

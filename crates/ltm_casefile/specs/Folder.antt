@@ -19,11 +19,19 @@ doc_of file.Signals = Some doc.Signals
 doc_of file.Limits = Some doc.Limits
 doc_of file.Whole = None
 
--- the bytes of a file that is there and has at most 16,777,216 of them
-abbrev pub sized : File → Option (List ℕ) → Result (List ℕ) CaseFault
-sized f None = Err (Folder f)
-sized f (Some bytes) = if nat_le (length bytes) longest_file then Ok bytes else Err (TooLong f)
+-- the most bytes of a file of demand or of splits where a case asks for more rows than one with history may have
+abbrev pub longest_large_file : ℕ
+longest_large_file = 268435456
+
+-- the bytes of a file that is there and has at most so many of them
+abbrev pub sized : ℕ → File → Option (List ℕ) → Result (List ℕ) CaseFault
+sized most f None = Err (Folder f)
+sized most f (Some bytes) = if nat_le (length bytes) most then Ok bytes else Err (TooLong f)
 
 -- the same of a file that is one of the folder's
+abbrev pub text_within : ℕ → Files → File → Result (List ℕ) CaseFault
+text_within most files f = sized most f (option_and_then files (doc_of f))
+
+-- of at most 16,777,216 bytes
 abbrev pub text_of : Files → File → Result (List ℕ) CaseFault
-text_of files f = sized f (option_and_then files (doc_of f))
+text_of = text_within longest_file

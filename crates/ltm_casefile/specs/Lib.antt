@@ -6,6 +6,7 @@ pub mod Faults
 pub mod Fields
 pub mod Folder
 pub mod Headers
+pub mod KeptCase
 pub mod Links
 pub mod Roads
 pub mod Rows

@@ -9,8 +9,8 @@ use Rattle.ltm_records.specs.Left.{records_of}
 use Rattle.ltm_casefile.specs.declared.faults.CaseFault.{CaseFault}
 use Rattle.ltm_casefile.specs.declared.faults.File.TheVariants as file
 use Rattle.ltm_casefile.specs.declared.tables.Table.TheVariants as table
-use Rattle.ltm_casefile.specs.Setup.{setup_of}
-use Rattle.ltm_casefile.specs.Folder.{text_of}
+use Rattle.ltm_casefile.specs.Setup.{setup_of, longest_beside}
+use Rattle.ltm_casefile.specs.Folder.{text_of, text_within}
 use Rattle.ltm_casefile.specs.Tables.{with_file}
 
 -- the bytes of the files that say the roads and who travels on them
@@ -23,7 +23,7 @@ unfoldable pub road_texts_of : Files → Result RoadTexts CaseFault
 road_texts_of files =
     text_of files file.Setup >>= λ setup.
     text_of files file.Links >>= λ links.
-    text_of files file.Demand >>= λ demand.
+    text_within (longest_beside setup) files file.Demand >>= λ demand.
     Ok (record { setup = setup; links = links; demand = demand })
 
 -- a scenario without links, with what links and demand say

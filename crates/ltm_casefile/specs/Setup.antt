@@ -1,6 +1,6 @@
 -- What the setup says.
-use Rattle.std.specs.Prelude.{ℕ, ◌==◌, not, nat_lt, Bool, if◌then◌else◌, List, [], ◌∷◌, length, Result, Ok, Err}
-use Rattle.ltm_units.specs.Bounds.{default_demand_rows, default_split_rows, default_links, default_destinations}
+use Rattle.std.specs.Prelude.{ℕ, ◌==◌, not, nat_lt, Bool, false, if◌then◌else◌, List, [], ◌∷◌, length, Result, Ok, Err}
+use Rattle.ltm_units.specs.Bounds.{longest_file, most_kept_rows, default_demand_rows, default_split_rows, default_links, default_destinations}
 use Rattle.ltm_units.specs.Results.{refuse}
 use Rattle.ltm_scenario.specs.declared.setup.SetupFault.{SetupFault}
 use Rattle.ltm_scenario.specs.declared.setup.SetupFault.TheVariants.{Range as OutOfRange, MostCells, MostRows, MostLinks, MostDestinations}
@@ -8,6 +8,7 @@ use Rattle.ltm_scenario.specs.Setup.{setup_checked, default_cells}
 use Rattle.ltm_scenario.specs.Data.{empty_scenario}
 use Rattle.ltm_scenario.specs.Build.{◌>>=◌}
 use Rattle.ltm_records.specs.Fields.{Fields}
+use Rattle.ltm_records.specs.Left.{records_of}
 use Rattle.ltm_casefile.specs.declared.faults.CaseCause.{CaseCause}
 use Rattle.ltm_casefile.specs.declared.faults.CaseCause.TheVariants.{Range, Rows}
 use Rattle.ltm_casefile.specs.declared.faults.CaseFault.{CaseFault}
@@ -16,8 +17,9 @@ use Rattle.ltm_casefile.specs.declared.faults.File.TheVariants as file
 use Rattle.ltm_casefile.specs.declared.columns.Columns.{Columns}
 use Rattle.ltm_casefile.specs.declared.setup.SetupRecord.{SetupRecord}
 use Rattle.ltm_casefile.specs.declared.setup.Opened.{Opened}
-use Rattle.ltm_casefile.specs.Columns.{limits_field, cells_field, rows_field, links_field, destinations_field, moves_field, carry_field, width_of, columns_of, is_setup_header}
+use Rattle.ltm_casefile.specs.Columns.{limits_field, cells_field, rows_field, links_field, destinations_field, moves_field, carry_field, history_field, width_of, columns_of, is_setup_header}
 use Rattle.ltm_casefile.specs.Fields.{has_width, number_in, amount_in}
+use Rattle.ltm_casefile.specs.Folder.{longest_large_file}
 use Rattle.ltm_casefile.specs.Rows.{at_row, below_header}
 
 -- the number of a column that the header has, or what stands for one that it lacks
@@ -41,6 +43,7 @@ setup_record columns fields =
     number_if columns.destinations default_destinations fields (destinations_field columns) >>= λ destinations.
     number_if columns.moves 0 fields (moves_field columns) >>= λ moves.
     number_if columns.carry 0 fields (carry_field columns) >>= λ carry.
+    number_if columns.history 1 fields (history_field columns) >>= λ history.
     Ok (record {
       setup = record {
         step = record { 0 = step };
@@ -53,11 +56,13 @@ setup_record columns fields =
         most_destinations = destinations;
         by_turn = moves == 1;
         carry = carry == 1;
+        history = not (history == 0);
       };
       signals = signals;
       limits = limits;
       moves = moves;
       carry = carry;
+      history = history;
     })
 
 -- signals and limits are 0 or 1
@@ -66,14 +71,21 @@ flags_checked columns r =
     refuse (nat_lt 1 r.signals) (Range 4) >>= λ _.
     refuse (nat_lt 1 r.limits) (Range (limits_field columns))
 
+-- and so are moves, carry and history
+abbrev pub rules_checked : Columns → SetupRecord → Result (Unit {0}) CaseCause
+rules_checked columns r =
+    refuse (nat_lt 1 r.moves) (Range (moves_field columns)) >>= λ _.
+    refuse (nat_lt 1 r.carry) (Range (carry_field columns)) >>= λ _.
+    refuse (nat_lt 1 r.history) (Range (history_field columns))
+
 -- a field is out of its limits, and is the first unless signals or limits are
 abbrev pub after_flags : Columns → SetupRecord → ℕ → Result (Unit {0}) CaseCause
 after_flags columns r field = flags_checked columns r >>= λ _. Err (Range field)
 
 -- the first field that is out of its limits, in the order of the header: signals and limits stand before what bounds the
--- case, and moves and carry, which are 0 or 1, behind that
+-- case, and moves, carry and history, which are 0 or 1, behind that
 abbrev pub in_range : Columns → SetupRecord → Result (Unit {0}) SetupFault → Result (Unit {0}) CaseCause
-in_range columns r (Ok x) = flags_checked columns r >>= λ _. refuse (nat_lt 1 r.moves) (Range (moves_field columns)) >>= λ _. refuse (nat_lt 1 r.carry) (Range (carry_field columns))
+in_range columns r (Ok x) = flags_checked columns r >>= λ _. rules_checked columns r
 in_range columns r (Err (OutOfRange field)) = Err (Range field)
 in_range columns r (Err MostCells) = after_flags columns r (cells_field columns)
 in_range columns r (Err MostRows) = after_flags columns r (rows_field columns)
@@ -100,3 +112,12 @@ only_row columns (row ∷ rows) =
 -- what the records of the setup say
 unfoldable pub setup_of : List Fields → Result Opened CaseFault
 setup_of rows = below_header file.Setup is_setup_header (λ header. only_row (columns_of header)) rows
+
+-- the setup asks for more rows than a case with history may have
+abbrev pub asks_for_many : Result Opened CaseFault → Bool
+asks_for_many (Ok opened) = nat_lt most_kept_rows opened.scenario.setup.most_demand_rows
+asks_for_many (Err fault) = false
+
+-- the most bytes of the files of demand and of splits that stand beside a setup
+unfoldable pub longest_beside : List ℕ → ℕ
+longest_beside setup = if asks_for_many (setup_of (records_of setup)) then longest_large_file else longest_file

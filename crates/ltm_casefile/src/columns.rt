@@ -1,7 +1,7 @@
 //! The header of a setup.
 ghost use Rattle.std.specs.Prelude.{◌≡◌, ◌≤◌};
 ghost use Rattle.csv.specs.Records.{fields_of};
-ghost use Rattle.ltm_casefile.specs.Columns.{one_if, limits_field, cells_field, rows_field, links_field, destinations_field, moves_field, carry_field, width_of, columns_of, is_setup_header};
+ghost use Rattle.ltm_casefile.specs.Columns.{one_if, limits_field, cells_field, rows_field, links_field, destinations_field, moves_field, carry_field, history_field, width_of, columns_of, is_setup_header};
 
 use csv::ByteRecord;
 use ltm_records::{has, width};
@@ -25,6 +25,8 @@ pub struct Columns {
     pub moves: bool,
     /// Whether what is left over of capacities is carried.
     pub carry: bool,
+    /// Whether the history of a loading is kept.
+    pub history: bool,
 }
 
 fn one_if(there: bool) -> u32
@@ -55,6 +57,8 @@ impl Columns {
         let moves = has(header, moves_at, b"moves");
         let carry_at = moves_at + one_if(moves) as usize;
         let carry = has(header, carry_at, b"carry");
+        let history_at = carry_at + one_if(carry) as usize;
+        let history = has(header, history_at, b"history");
         Columns {
             signals,
             limits,
@@ -64,6 +68,7 @@ impl Columns {
             destinations,
             moves,
             carry,
+            history,
         }
     }
 
@@ -72,7 +77,8 @@ impl Columns {
         ensures { result ≡ width_of self }
     {
         let sizes = one_if(self.cells) + one_if(self.rows) + one_if(self.links);
-        let others = one_if(self.destinations) + one_if(self.moves) + one_if(self.carry);
+        let rules = one_if(self.moves) + one_if(self.carry) + one_if(self.history);
+        let others = one_if(self.destinations) + rules;
         (3 + one_if(self.signals) + one_if(self.limits) + sizes + others) as usize
     }
 
@@ -126,14 +132,22 @@ impl Columns {
 
     /// Where the field of what is carried stands.
     pub fn carry_field(self) -> u32
-        ensures { result ≡ carry_field self }
+        ensures field { result ≡ carry_field self }
+        ensures small { result ≤ 11 }
     {
         self.moves_field() + one_if(self.moves)
+    }
+
+    /// Where the field of the history stands.
+    pub fn history_field(self) -> u32
+        ensures { result ≡ history_field self }
+    {
+        self.carry_field() + one_if(self.carry)
     }
 }
 
 /// Whether the record is `step_ms,slots,origin_capacity`, then any of `signals`, `limits`, `cells`, `rows`, `links`,
-/// `destinations`, `moves` and `carry` in this order.
+/// `destinations`, `moves`, `carry` and `history` in this order.
 pub fn is_setup_header(row: &ByteRecord) -> bool
     ensures { result ≡ is_setup_header (fields_of row.now) }
 {

@@ -95,6 +95,9 @@ pub enum CaseFault {
         row: u32,
         cause: CaseCause,
     },
+    /// The case keeps no history, which the call needs.
+    #[error("the case keeps no history")]
+    NoHistory,
     /// Memory was not found.
     #[error("out of memory")]
     NoMemory,

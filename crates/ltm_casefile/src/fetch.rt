@@ -2,20 +2,23 @@
 ghost use Rattle.std.specs.Prelude.{◌≡◌, ◌≤◌, ℕ, length, Ok, Err, IfOk, IfErr, IfSome, IsSome, Some, None, true, false};
 ghost use Rattle.ltm_io.specs.declared.doc.Doc.{Doc};
 ghost use Rattle.ltm_casefile.specs.declared.faults.File.{File};
-ghost use Rattle.ltm_casefile.specs.Folder.{doc_of, text_of};
+ghost use Rattle.ltm_casefile.specs.Folder.{doc_of, longest_large_file, text_of, text_within};
 ghost use Rattle.ltm_casefile.specs.Case.{texts_of, text_if, limit_texts_of, is_of_each, is_asked};
 ghost use Rattle.ltm_casefile.specs.Roads.{road_texts_of, is_of_roads};
 ghost use Rattle.ltm_casefile.specs.Faults.{Agrees, HasRisen, WasAsked, HidesNoMemory};
 ghost use Rattle.ltm_units.specs.Bounds.{longest_file};
 
 use crate::faults::{CaseFault, File};
-use crate::setup::Asked;
+use crate::setup::{Asked, longest_beside};
 use ltm_io::{Doc, Fetched, Folder};
 use std::alloc::Global;
 use std::marker::Model;
 
-/// The most bytes that a file of a case may have.
+/// The most bytes that a file of a case may have, but for demand and splits of one that asks for many rows.
 pub const LONGEST_FILE: u64 = 16_777_216;
+
+/// The most bytes that these may have there.
+pub(crate) const LONGEST_LARGE_FILE: u64 = 268_435_456;
 
 impl File {
     /// The file of the folder; None for the whole case.
@@ -34,7 +37,7 @@ impl File {
     }
 }
 
-/// The bytes of a file of a case, at most 16,777,216 of them.
+/// The bytes of a file of a case, at most 268,435,456 of them.
 #[derive(Drop)]
 pub struct FileText {
     bytes: Vec<u8>,
@@ -42,19 +45,19 @@ pub struct FileText {
 
 impl Model for FileText {
     ghost use Rattle.std.specs.Prelude.{◌≤◌, ℕ, List, length};
-    ghost use Rattle.ltm_units.specs.Bounds.{longest_file};
+    ghost use Rattle.ltm_casefile.specs.Folder.{longest_large_file};
 
     ghost Value = { List ℕ };
 
     ghost view = { λ t. t.bytes.items };
 
-    ghost invariant = { λ t. length t.bytes.items ≤ longest_file };
+    ghost invariant = { λ t. length t.bytes.items ≤ longest_large_file };
 }
 
 impl FileText {
     pub fn bytes(&self) -> &[u8]
         ensures bytes { result.now ≡ self.now }
-        ensures short { length self.now ≤ longest_file }
+        ensures short { length self.now ≤ longest_large_file }
     {
         &self.bytes
     }
@@ -150,17 +153,23 @@ impl Model for LimitTexts {
     ghost view = { λ t. record { signals = t.signals; limits = t.limits } };
 }
 
-/// The bytes of one file of the folder.
-fn fetch<F: Folder>(alloc: Global, folder: &mut F, file: File) -> Result<FileText, CaseFault>
-    requires { IsSome (doc_of file) }
+/// The bytes of one file of the folder, at most so many of them.
+fn fetch<F: Folder>(
+    alloc: Global,
+    folder: &mut F,
+    file: File,
+    most: u64,
+) -> Result<FileText, CaseFault>
+    requires file { IsSome (doc_of file) }
+    requires most { most ≤ longest_large_file }
     ensures keeps { F.told folder.new ≡ F.told folder.old }
     ensures later { (d : Doc) → F.faults folder.old d ≤ F.faults folder.new d }
     ensures others { (d : Doc) → (doc_of file ≡ Some d → ⊥)
         → F.faults folder.new d ≡ F.faults folder.old d }
-    ensures ok { IfOk result (λ v. IfSome (F.told folder.old) (λ files. text_of files file
+    ensures ok { IfOk result (λ v. IfSome (F.told folder.old) (λ files. text_within most files file
         ≡ Ok v)) }
     ensures fault { IfErr result (λ e. IfSome (F.told folder.old)
-        (λ files. Agrees (text_of files file) e)) }
+        (λ files. Agrees (text_within most files file) e)) }
     ensures risen { IfErr result (HasRisen (F.faults folder.old) (F.faults folder.new)) }
     ensures given { (f : File) → result ≡ Err (CaseFault.Folder f) → f ≡ file }
     ensures memory { IfErr result HidesNoMemory }
@@ -169,7 +178,7 @@ fn fetch<F: Folder>(alloc: Global, folder: &mut F, file: File) -> Result<FileTex
         unreachable!();
     };
     let mut bytes = Vec::new(alloc);
-    match folder.fetch(doc, &mut bytes, LONGEST_FILE) {
+    match folder.fetch(doc, &mut bytes, most) {
         Fetched::Found => Ok(FileText { bytes }),
         Fetched::TooLong => Err(CaseFault::TooLong(file)),
         Fetched::Failed => Err(CaseFault::Folder(file)),
@@ -192,9 +201,10 @@ pub fn fetch_road_texts<F: Folder>(alloc: Global, folder: &mut F) -> Result<Road
     ensures asked { IfErr result (WasAsked is_of_roads) }
     ensures memory { IfErr result HidesNoMemory }
 {
-    let setup = fetch(alloc, folder, File::Setup)?;
-    let links = fetch(alloc, folder, File::Links)?;
-    let demand = fetch(alloc, folder, File::Demand)?;
+    let setup = fetch(alloc, folder, File::Setup, LONGEST_FILE)?;
+    let links = fetch(alloc, folder, File::Links, LONGEST_FILE)?;
+    let most = longest_beside(alloc, setup.bytes())?;
+    let demand = fetch(alloc, folder, File::Demand, most)?;
     Ok(RoadTexts {
         setup,
         links,
@@ -217,7 +227,8 @@ pub fn fetch_texts<F: Folder>(alloc: Global, folder: &mut F) -> Result<Texts, Ca
     ensures memory { IfErr result HidesNoMemory }
 {
     let roads = fetch_road_texts(alloc, folder)?;
-    let splits = fetch(alloc, folder, File::Splits)?;
+    let most = longest_beside(alloc, roads.setup())?;
+    let splits = fetch(alloc, folder, File::Splits, most)?;
     Ok(Texts { roads, splits })
 }
 
@@ -244,7 +255,7 @@ fn fetch_if<F: Folder>(
     if !asked {
         return Ok(None);
     }
-    let text = fetch(alloc, folder, file)?;
+    let text = fetch(alloc, folder, file, LONGEST_FILE)?;
     Ok(Some(text))
 }
 

@@ -1,13 +1,16 @@
 //! The record of the setup.
-ghost use Rattle.std.specs.Prelude.{◌≡◌, ◌≤◌, [], Ok, Err, IfOk, IfErr};
+ghost use Rattle.std.specs.Prelude.{◌≡◌, ◌≤◌, [], Ok, Err, IfOk, IfErr, nat_lt, if◌then◌else◌};
+ghost use Rattle.ltm_units.specs.Bounds.{longest_file, most_kept_rows};
 ghost use Rattle.csv.specs.Records.{fields_of};
 ghost use Rattle.ltm_records.specs.Left.{records_of};
 ghost use Rattle.ltm_casefile.specs.Faults.{Says};
 ghost use Rattle.ltm_casefile.specs.Columns.{columns_of};
-ghost use Rattle.ltm_casefile.specs.Setup.{number_if, setup_record, flags_checked, after_flags, in_range, opened, setup_read, only_row, setup_of};
+ghost use Rattle.ltm_casefile.specs.Setup.{number_if, setup_record, flags_checked, rules_checked, after_flags, in_range, opened, setup_read, only_row, setup_of, longest_beside};
+ghost use Rattle.ltm_casefile.specs.Folder.{longest_large_file};
 
 use crate::columns::{Columns, is_setup_header};
 use crate::faults::{CaseCause, CaseFault, File};
+use crate::fetch::{LONGEST_FILE, LONGEST_LARGE_FILE};
 use crate::fields::{check_width, read_amount, read_number};
 use csv::ByteRecord;
 use ltm_demand::DEFAULT_DEMAND_ROWS;
@@ -15,7 +18,7 @@ use ltm_network::DEFAULT_LINKS;
 use ltm_records::Records;
 use ltm_scenario::{DEFAULT_CELLS, DEFAULT_DESTINATIONS, Scenario, Setup, SetupFault};
 use ltm_splits::DEFAULT_SPLIT_ROWS;
-use ltm_units::Millis;
+use ltm_units::{Millis, NoMemory};
 use std::alloc::Global;
 
 /// What the record of the setup says.
@@ -30,6 +33,8 @@ pub struct SetupRecord {
     pub moves: u32,
     /// 1 where what is left over of capacities is carried.
     pub carry: u32,
+    /// 0 where no history is kept.
+    pub history: u32,
 }
 
 /// Which files of limits the setup asks for.
@@ -83,6 +88,7 @@ fn read_record(columns: Columns, row: &ByteRecord) -> Result<SetupRecord, CaseCa
     )?;
     let moves = read_if(columns.moves, 0, row, columns.moves_field())?;
     let carry = read_if(columns.carry, 0, row, columns.carry_field())?;
+    let history = read_if(columns.history, 1, row, columns.history_field())?;
     let setup = Setup {
         step: Millis(u64::from(step)),
         slots,
@@ -94,6 +100,7 @@ fn read_record(columns: Columns, row: &ByteRecord) -> Result<SetupRecord, CaseCa
         most_destinations,
         by_turn: moves == 1,
         carry: carry == 1,
+        history: history != 0,
     };
     Ok(SetupRecord {
         setup,
@@ -101,6 +108,7 @@ fn read_record(columns: Columns, row: &ByteRecord) -> Result<SetupRecord, CaseCa
         limits,
         moves,
         carry,
+        history,
     })
 }
 
@@ -112,6 +120,21 @@ fn check_flags(columns: Columns, said: &SetupRecord) -> Result<(), CaseCause>
     }
     if said.limits > 1 {
         return Err(CaseCause::Range(columns.limits_field()));
+    }
+    Ok(())
+}
+
+fn check_rules(columns: Columns, said: &SetupRecord) -> Result<(), CaseCause>
+    ensures { result ≡ rules_checked columns said.now }
+{
+    if said.moves > 1 {
+        return Err(CaseCause::Range(columns.moves_field()));
+    }
+    if said.carry > 1 {
+        return Err(CaseCause::Range(columns.carry_field()));
+    }
+    if said.history > 1 {
+        return Err(CaseCause::Range(columns.history_field()));
     }
     Ok(())
 }
@@ -152,11 +175,9 @@ fn open(alloc: Global, columns: Columns, said: &SetupRecord) -> Result<Opened, C
         Ok(()) => {}
         Err(cause) => return Err(cause),
     }
-    if said.moves > 1 {
-        return Err(CaseCause::Range(columns.moves_field()));
-    }
-    if said.carry > 1 {
-        return Err(CaseCause::Range(columns.carry_field()));
+    match check_rules(columns, said) {
+        Ok(()) => {}
+        Err(cause) => return Err(cause),
     }
     let asked = Asked {
         signals: said.signals == 1,
@@ -209,6 +230,20 @@ fn open_only_row(
     Ok(opened)
 }
 
+/// The most rows of a case with history.
+const MOST_KEPT_ROWS: u32 = 500_000;
+
+/// The most bytes of the files of demand and of splits of such a setup.
+fn longest_of(setup: &Setup) -> u64
+    ensures { result ≡ (if nat_lt most_kept_rows setup.now.most_demand_rows then longest_large_file else longest_file) }
+{
+    if setup.most_demand_rows > MOST_KEPT_ROWS {
+        LONGEST_LARGE_FILE
+    } else {
+        LONGEST_FILE
+    }
+}
+
 /// The scenario of a setup without links, and which files of limits come with the case.
 #[tactic(auto, unfolding(crate::specs::Setup::setup_of))]
 pub fn open_setup(alloc: Global, text: &[u8]) -> Result<Opened, CaseFault>
@@ -223,4 +258,18 @@ pub fn open_setup(alloc: Global, text: &[u8]) -> Result<Opened, CaseFault>
     }
     let columns = Columns::of(&row);
     open_only_row(alloc, columns, &mut records, &mut row)
+}
+
+/// The most bytes of the files of demand and of splits beside a setup: more where it asks for more rows than a case with history
+/// may have.
+#[tactic(auto, unfolding(crate::specs::Setup::longest_beside), using(crate::proofs::Memory::beside_bad))]
+pub fn longest_beside(alloc: Global, text: &[u8]) -> Result<u64, NoMemory>
+    ensures most { IfOk result (λ most. most ≡ longest_beside text.now) }
+    ensures small { IfOk result (λ most. most ≤ longest_large_file) }
+{
+    match open_setup(alloc, text) {
+        Ok(opened) => Ok(longest_of(opened.scenario.setup())),
+        Err(CaseFault::NoMemory) => Err(NoMemory),
+        Err(_) => Ok(LONGEST_FILE),
+    }
 }

@@ -5,7 +5,7 @@ ghost use Rattle.ltm_records.specs.Left.{records_of};
 ghost use Rattle.ltm_casefile.specs.Causes.{Tells};
 ghost use Rattle.ltm_casefile.specs.Faults.{Says};
 ghost use Rattle.ltm_casefile.specs.Tables.{file_of, heads, row_added, rows_added, table_added, with_file_if};
-ghost use Rattle.ltm_units.specs.Bounds.{longest_file};
+ghost use Rattle.ltm_casefile.specs.Folder.{longest_large_file};
 
 use crate::demand::{add_demand, is_demand_header};
 use crate::faults::{CaseCause, CaseFault, File, RecordFault};
@@ -79,7 +79,7 @@ impl Table {
         row: &mut ByteRecord,
     ) -> Result<(), CaseFault>
         requires unsplit { self ≡ Table.Links → scenario.old.splits ≡ [] }
-        requires few { length records.old ≤ longest_file }
+        requires few { length records.old ≤ longest_large_file }
         ensures ok { OnOk result (rows_added self 2 scenario.old records.old ≡ Ok scenario.new) }
         ensures fault { IfErr result (Says (rows_added self 2 scenario.old records.old)) }
     {

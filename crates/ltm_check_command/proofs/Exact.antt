@@ -10,7 +10,7 @@ use Rattle.ltm_scenario.specs.Data.{ScenarioData}
 use Rattle.ltm_check.specs.Fields.{Fields}
 use Rattle.ltm_check.specs.Left.{records_of}
 use Rattle.ltm_casefile.specs.declared.faults.CaseFault.{CaseFault}
-use Rattle.ltm_casefile.specs.Case.{case_of}
+use Rattle.ltm_casefile.specs.KeptCase.{kept_case_of}
 use Rattle.ltm_check.specs.declared.faults.CurvesCause.{CurvesCause}
 use Rattle.ltm_check.specs.declared.faults.CurvesCause.TheVariants.{Rows}
 use Rattle.ltm_check.specs.Due.{record_count}
@@ -94,7 +94,7 @@ pub sized_none : (b : Bool) (s : ScenarioData) (bytes : List ℕ) → SizedAnswe
 sized_none true s bytes says = cc
 sized_none false s bytes says = says
 
-case_only : (files : Files) (f : CaseFault) → AnswersCheck (Some files) (Err (refusal.Case f)) → case_of files ≡ Err f
+case_only : (files : Files) (f : CaseFault) → AnswersCheck (Some files) (Err (refusal.Case f)) → kept_case_of files ≡ Err f
 case_only files f (Ok s, Some bytes, has, says) = absurd (sized_case (nat_lt most_bytes (length bytes)) s bytes f says)
 case_only files f (Ok s, None, has, says) = absurd (cc)
 case_only files f (Err g, file, has, says) = let same : f ≡ g = cc in has.0 ∙ ap (λ x. Err x) (sym same)
@@ -103,7 +103,7 @@ pub missing_case : (files : Files) (f : CaseFault) (answer : Answer) → Answers
 missing_case files f answer says (said, file, has, other) =
     let is : said ≡ Err f = sym has.0 ∙ case_only files f says in subst (λ x. CheckAnswer x file answer) is other
 
-curves_only : (files : Files) → AnswersCheck (Some files) (Err refusal.NoCurves) → (s : ScenarioData) × (case_of files ≡ Ok s) × (files doc.Curves ≡ None)
+curves_only : (files : Files) → AnswersCheck (Some files) (Err refusal.NoCurves) → (s : ScenarioData) × (kept_case_of files ≡ Ok s) × (files doc.Curves ≡ None)
 curves_only files (Ok s, Some bytes, has, says) = absurd (sized_none (nat_lt most_bytes (length bytes)) s bytes says)
 curves_only files (Ok s, None, has, says) = (s, has.0, has.1)
 curves_only files (Err g, file, has, says) = absurd (cc)

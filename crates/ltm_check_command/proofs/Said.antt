@@ -10,7 +10,7 @@ use Rattle.ltm_check.specs.Fields.{Fields}
 use Rattle.ltm_check.specs.Left.{records_of}
 use Rattle.ltm_casefile.specs.declared.faults.CaseFault.{CaseFault}
 use Rattle.ltm_casefile.specs.declared.faults.CaseFault.TheVariants as fault
-use Rattle.ltm_casefile.specs.Case.{case_of}
+use Rattle.ltm_casefile.specs.KeptCase.{kept_case_of}
 use Rattle.ltm_casefile.specs.Faults.{Agrees}
 use Rattle.ltm_curve.specs.Counts.{Counts}
 use Rattle.ltm_curve.specs.declared.curves.Curves.{Curves}
@@ -29,18 +29,19 @@ use Rattle.ltm_check_command.specs.Curves.{AreBytes, KeepsFile, KeepsRecords, Re
 use Rattle.ltm_check_command.proofs.Exact.{sized_case, not_long}
 
 -- ---- a fault of the case
-case_answer : (told : Option Files) (f : CaseFault) → IfSome told (λ files. case_of files ≡ Err f) → AnswersCheck told (Err (refusal.Case f))
+case_answer : (told : Option Files) (f : CaseFault) → IfSome told (λ files. kept_case_of files ≡ Err f) → AnswersCheck told (Err (refusal.Case f))
 case_answer None f says = (Err f, None, tt, refl)
 case_answer (Some files) f says = (Err f, files doc.Curves, (says, refl), refl)
 
-pub case_refused : (told : Option Files) (f : CaseFault) → IfSome told (λ files. Agrees (case_of files) f) → AnswersRefusal told (refusal.Case f)
+pub case_refused : (told : Option Files) (f : CaseFault) → IfSome told (λ files. Agrees (kept_case_of files) f) → AnswersRefusal told (refusal.Case f)
 case_refused told (fault.Folder x) says = tt
 case_refused told (fault.TooLong x) says = case_answer told (fault.TooLong x) says
 case_refused told (fault.Bad x row cause) says = case_answer told (fault.Bad x row cause) says
+case_refused told fault.NoHistory says = case_answer told fault.NoHistory says
 case_refused told fault.NoMemory says = tt
 
 -- ---- the bytes of a curve file
-sized_answer : (told now : Option Files) (s : ScenarioData) (bytes : List ℕ) (answer : Answer) → now ≡ told → IfSome told (λ files. case_of files ≡ Ok s) → AreBytes now bytes → SizedAnswer (nat_lt most_bytes (length bytes)) s bytes answer → AnswersCheck told answer
+sized_answer : (told now : Option Files) (s : ScenarioData) (bytes : List ℕ) (answer : Answer) → now ≡ told → IfSome told (λ files. kept_case_of files ≡ Ok s) → AreBytes now bytes → SizedAnswer (nat_lt most_bytes (length bytes)) s bytes answer → AnswersCheck told answer
 sized_answer None now s bytes answer keeps says has answers = (Ok s, Some bytes, tt, answers)
 sized_answer (Some files) now s bytes answer keeps says has answers = (Ok s, Some bytes, (says, subst (λ o. AreBytes o bytes) keeps has), answers)
 
@@ -49,7 +50,7 @@ short_size true s bytes answer is says = cc
 short_size false s bytes answer is says = says
 
 -- what is answered to its records is answered to the file
-pub file_answer : (told now : Option Files) (s : ScenarioData) (c : Curves) (answer : Answer) → now ≡ told → IfSome told (λ files. case_of files ≡ Ok s) → KeepsFile s now c → ((records : List Fields) → KeepsRecords s records c → RecordsAnswer s records answer) → AnswersCheck told answer
+pub file_answer : (told now : Option Files) (s : ScenarioData) (c : Curves) (answer : Answer) → now ≡ told → IfSome told (λ files. kept_case_of files ≡ Ok s) → KeepsFile s now c → ((records : List Fields) → KeepsRecords s records c → RecordsAnswer s records answer) → AnswersCheck told answer
 file_answer told now s c answer keeps says (bytes, has, few, kept) answers =
     sized_answer told now s bytes answer keeps says has (short_size (nat_lt most_bytes (length bytes)) s bytes answer (not_long (length bytes) few) (answers (records_of bytes) kept))
 
@@ -61,7 +62,7 @@ told_refusal told s records (refusal.BadCurves row cause) tells refuses = tells
 told_refusal told s records refusal.NoStart tells refuses = tells
 told_refusal told s records (refusal.NoStep node slot) tells refuses = tells
 
-pub answer_refused : (told now : Option Files) (s : ScenarioData) (c : Curves) (e : Refusal) → now ≡ told → IfSome told (λ files. case_of files ≡ Ok s) → KeepsFile s now c
+pub answer_refused : (told now : Option Files) (s : ScenarioData) (c : Curves) (e : Refusal) → now ≡ told → IfSome told (λ files. kept_case_of files ≡ Ok s) → KeepsFile s now c
     → (e ≡ refusal.Case fault.NoMemory) ⊎ ((records : List Fields) → KeepsRecords s records c → Refuses s records e) → AnswersRefusal told e
 answer_refused told now s c e keeps says file (inl memory) = subst (AnswersRefusal told) (sym memory) tt
 answer_refused told now s c e keeps says file (inr refuses) =
@@ -75,7 +76,7 @@ sized_refusal told b s bytes (refusal.BadCurves row cause) tells sized = tells
 sized_refusal told b s bytes refusal.NoStart tells sized = tells
 sized_refusal told b s bytes (refusal.NoStep node slot) tells sized = tells
 
-pub file_refused : (told now : Option Files) (s : ScenarioData) (e : Refusal) → now ≡ told → IfSome told (λ files. case_of files ≡ Ok s) → RefusesFile s now e → AnswersRefusal told e
+pub file_refused : (told now : Option Files) (s : ScenarioData) (e : Refusal) → now ≡ told → IfSome told (λ files. kept_case_of files ≡ Ok s) → RefusesFile s now e → AnswersRefusal told e
 file_refused told now s e keeps says (inl none) = subst (AnswersRefusal told) (sym none) tt
 file_refused told now s e keeps says (inr (inl memory)) = subst (AnswersRefusal told) (sym memory) tt
 file_refused told now s e keeps says (inr (inr (bytes, has, sized))) =

@@ -11,7 +11,8 @@ use Rattle.ltm_check.specs.Fields.{Fields}
 use Rattle.ltm_check.specs.Left.{records_of}
 use Rattle.ltm_casefile.specs.declared.faults.CaseFault.{CaseFault}
 use Rattle.ltm_casefile.specs.declared.faults.CaseFault.TheVariants as fault
-use Rattle.ltm_casefile.specs.Case.{case_of, is_case_file, asks_for}
+use Rattle.ltm_casefile.specs.Case.{is_case_file, asks_for}
+use Rattle.ltm_casefile.specs.KeptCase.{kept_case_of}
 use Rattle.ltm_setting.specs.Setting.{setting_of}
 use Rattle.ltm_check.specs.File.{IsCurveFile, IsFirstFault, told}
 use Rattle.ltm_check.specs.ReadBack.{TellsLoading}
@@ -65,12 +66,12 @@ CheckAnswer (Err fault) file answer = answer ≡ Err (refusal.Case fault)
 
 -- the files that a folder tells, where it tells any, describe this scenario, and `curves.csv` has these bytes
 abbrev pub HasCurves : Option Files → ScenarioData → List ℕ → Type 0
-HasCurves told s bytes = IfSome told (λ files. (case_of files ≡ Ok s) × (files doc.Curves ≡ Some bytes))
+HasCurves told s bytes = IfSome told (λ files. (kept_case_of files ≡ Ok s) × (files doc.Curves ≡ Some bytes))
 
 -- the same, of the files that a folder tells, where it tells any
 abbrev pub AnswersCheck : Option Files → Answer → Type 0
 AnswersCheck told answer =
-    (said : Result ScenarioData CaseFault) × (file : Option (List ℕ)) × IfSome told (λ files. (case_of files ≡ said) × (files doc.Curves ≡ file)) × CheckAnswer said file answer
+    (said : Result ScenarioData CaseFault) × (file : Option (List ℕ)) × IfSome told (λ files. (kept_case_of files ≡ said) × (files doc.Curves ≡ file)) × CheckAnswer said file answer
 
 -- a refusal that lies in the files is the answer; that a folder did not give a file, or memory was not found, does not lie
 -- in them
@@ -78,6 +79,7 @@ abbrev pub AnswersRefusal : Option Files → Refusal → Type 0
 AnswersRefusal told (refusal.Case (fault.Folder f)) = Unit {0}
 AnswersRefusal told (refusal.Case (fault.TooLong f)) = AnswersCheck told (Err (refusal.Case (fault.TooLong f)))
 AnswersRefusal told (refusal.Case (fault.Bad f row cause)) = AnswersCheck told (Err (refusal.Case (fault.Bad f row cause)))
+AnswersRefusal told (refusal.Case fault.NoHistory) = AnswersCheck told (Err (refusal.Case fault.NoHistory))
 AnswersRefusal told (refusal.Case fault.NoMemory) = Unit {0}
 AnswersRefusal told refusal.NoCurves = Unit {0}
 AnswersRefusal told refusal.LongCurves = AnswersCheck told (Err refusal.LongCurves)
@@ -105,6 +107,7 @@ abbrev pub HasMissed : Option Files → (Doc → ℕ) → (Doc → ℕ) → Refu
 HasMissed told before now (refusal.Case (fault.Folder f)) = Missed told before now
 HasMissed told before now (refusal.Case (fault.TooLong f)) = Unit {0}
 HasMissed told before now (refusal.Case (fault.Bad f row cause)) = Unit {0}
+HasMissed told before now (refusal.Case fault.NoHistory) = Unit {0}
 HasMissed told before now (refusal.Case fault.NoMemory) = Unit {0}
 HasMissed told before now refusal.NoCurves = Missed told before now
 HasMissed told before now refusal.LongCurves = Unit {0}

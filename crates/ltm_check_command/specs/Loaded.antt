@@ -5,7 +5,7 @@ use Rattle.ltm_curve.specs.Counts.{Counts}
 use Rattle.ltm_scenario.specs.Data.{ScenarioData}
 use Rattle.ltm_scenario.specs.IsScenario.{IsScenario}
 use Rattle.ltm_casefile.specs.declared.faults.CaseFault.{CaseFault}
-use Rattle.ltm_casefile.specs.Case.{case_of}
+use Rattle.ltm_casefile.specs.KeptCase.{kept_case_of}
 use Rattle.ltm_check.specs.Left.{records_of}
 use Rattle.ltm_check.specs.Loading.{IsLoading}
 use Rattle.ltm_setting.specs.Setting.{setting_of}
@@ -23,4 +23,4 @@ CurvesAnswer (Err fault) answer = answer ≡ Err fault
 
 -- the same, of the case that a folder tells, where it tells anything
 abbrev pub AnswersCurves : Option Files → Result (List ℕ) CaseFault → Type 0
-AnswersCurves told answer = (said : Result ScenarioData CaseFault) × IfSome told (λ files. case_of files ≡ said) × CurvesAnswer said answer
+AnswersCurves told answer = (said : Result ScenarioData CaseFault) × IfSome told (λ files. kept_case_of files ≡ said) × CurvesAnswer said answer

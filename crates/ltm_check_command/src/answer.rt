@@ -18,7 +18,7 @@ ghost use Rattle.ltm_setting.specs.Places.{IsNode, IsShapedFor};
 use crate::curves::read_file;
 use crate::lines::yes_text;
 use crate::refusal::Refusal;
-use ltm_casefile::{CaseFault, read_case};
+use ltm_casefile::{CaseFault, read_kept_case};
 use ltm_check::{Checked, check_curves, kept_answers_alike};
 use ltm_curve::Curves;
 use ltm_io::OpenFolder;
@@ -83,7 +83,7 @@ fn answer_curves(alloc: Global, scenario: &Scenario, curves: &Curves) -> Result<
 }
 
 /// Says yes where the `curves.csv` of a folder tells the loading of its case, and else why not: the first fault of the case, as
-/// `read_case` has it; then that the file was not given, or has more than 268,435,456 bytes; then its first fault; then that
+/// `read_kept_case` has it; then that the file was not given, or has more than 268,435,456 bytes; then its first fault; then that
 /// what it counts does not start as a loading does; then the first pair, by slot and then by node, that is not its node step.
 pub fn check_text<F: OpenFolder>(alloc: Global, folder: &mut F) -> Result<Vec<u8>, Refusal>
     ensures text { IfOk result (λ text. AnswersCheck (F.told folder.old) (Ok text.items)) }
@@ -100,7 +100,7 @@ pub fn check_text<F: OpenFolder>(alloc: Global, folder: &mut F) -> Result<Vec<u8
     ensures unasked { IfSome (F.told folder.old) (λ files. (d : Doc)
         → check_asks_for files d ≡ false → F.faults folder.new d ≡ F.faults folder.old d) }
 {
-    let scenario = match read_case(alloc, folder) {
+    let scenario = match read_kept_case(alloc, folder) {
         Ok(scenario) => scenario,
         Err(fault) => return Err(Refusal::Case(fault)),
     };

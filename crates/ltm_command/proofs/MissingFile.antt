@@ -57,12 +57,14 @@ pub curves_missed : (told : Option Files) (before now : Doc → ℕ) (e : CaseFa
 curves_missed told before now (fault.Folder f) asked rose missing = failed report.Load told before now f asked rose
 curves_missed told before now (fault.TooLong f) asked rose missing = absurd missing
 curves_missed told before now (fault.Bad f row cause) asked rose missing = absurd missing
+curves_missed told before now fault.NoHistory asked rose missing = absurd missing
 curves_missed told before now fault.NoMemory asked rose missing = absurd missing
 
 pub check_failed : (told : Option Files) (before now : Doc → ℕ) (e : Refusal) → HasMissed told before now e → IsMissing e → FileFailed command.Check told before now
 check_failed told before now (refusal.Case (fault.Folder f)) missed missing = missed
 check_failed told before now (refusal.Case (fault.TooLong f)) missed missing = absurd missing
 check_failed told before now (refusal.Case (fault.Bad f row cause)) missed missing = absurd missing
+check_failed told before now (refusal.Case fault.NoHistory) missed missing = absurd missing
 check_failed told before now (refusal.Case fault.NoMemory) missed missing = absurd missing
 check_failed told before now refusal.NoCurves missed missing = missed
 check_failed told before now refusal.LongCurves missed missing = absurd missing

@@ -9,7 +9,7 @@ use Rattle.ltm_casefile.specs.declared.faults.File.{File}
 use Rattle.ltm_casefile.specs.declared.faults.CaseCause.{CaseCause}
 use Rattle.ltm_casefile.specs.declared.faults.CaseFault.{CaseFault}
 use Rattle.ltm_casefile.specs.declared.faults.CaseFault.TheVariants as fault
-use Rattle.ltm_report.specs.CaseFaults.{bad_case_line}
+use Rattle.ltm_report.specs.CaseFaults.{bad_case_line, no_history_line}
 use Rattle.ltm_routes_command.specs.declared.lines.RouteLines.{RouteLines}
 use Rattle.ltm_routes_command.specs.Routing.{RoutesAnswer}
 use Rattle.ltm_routes_command.proofs.Missing.{missing_said}
@@ -27,7 +27,7 @@ use Rattle.ltm_check_command.specs.Lines.{yes_line}
 use Rattle.ltm_check_command.specs.Loaded.{IsLoadingText}
 use Rattle.ltm_check_command.specs.Checks.{HasCurves, most_bytes}
 use Rattle.ltm_check_command.proofs.Exact.{yes_told, only_yes, missing_case, missing_curves}
-use Rattle.ltm_command.specs.Answers.{Answer, Answers, AnswersFault, Describes, Reports, IsRoutesFile, RouteAnswer, answer_of, fetches, ReportAnswer}
+use Rattle.ltm_command.specs.Answers.{Answer, Answers, AnswersFault, Describes, DescribesKept, Reports, IsRoutesFile, RouteAnswer, answer_of, fetches, ReportAnswer}
 use Rattle.ltm_command.specs.Program.{status_of, words_of, refusal_status, IsTold, IsMissing, IsLong, IsAnswerUnder, Fetches, IsCalm}
 
 -- a refusal of which a line tells is the answer
@@ -35,6 +35,7 @@ pub said_answers : (command : Command) (told : Option Files) (e : Refusal) → A
 said_answers command told (refusal.Case (fault.Folder f)) says is = absurd is
 said_answers command told (refusal.Case (fault.TooLong f)) says is = says
 said_answers command told (refusal.Case (fault.Bad f row cause)) says is = says
+said_answers command told (refusal.Case fault.NoHistory) says is = says
 said_answers command told (refusal.Case fault.NoMemory) says is = absurd is
 said_answers command told refusal.NoCurves says is = absurd is
 said_answers command told refusal.LongCurves says is = says
@@ -47,6 +48,7 @@ pub never_ok : (e : Refusal) → ending.Ok ≡ refusal_status e → ⊥
 never_ok (refusal.Case (fault.Folder f)) is = cc
 never_ok (refusal.Case (fault.TooLong f)) is = cc
 never_ok (refusal.Case (fault.Bad f row cause)) is = cc
+never_ok (refusal.Case fault.NoHistory) is = cc
 never_ok (refusal.Case fault.NoMemory) is = cc
 never_ok refusal.NoCurves is = cc
 never_ok refusal.LongCurves is = cc
@@ -58,6 +60,7 @@ pub never_usage : (e : Refusal) → ending.Usage ≡ refusal_status e → ⊥
 never_usage (refusal.Case (fault.Folder f)) is = cc
 never_usage (refusal.Case (fault.TooLong f)) is = cc
 never_usage (refusal.Case (fault.Bad f row cause)) is = cc
+never_usage (refusal.Case fault.NoHistory) is = cc
 never_usage (refusal.Case fault.NoMemory) is = cc
 never_usage refusal.NoCurves is = cc
 never_usage refusal.LongCurves is = cc
@@ -69,6 +72,7 @@ pub never_read : (e : Refusal) → ending.ReadFault ≡ refusal_status e → ⊥
 never_read (refusal.Case (fault.Folder f)) is = cc
 never_read (refusal.Case (fault.TooLong f)) is = cc
 never_read (refusal.Case (fault.Bad f row cause)) is = cc
+never_read (refusal.Case fault.NoHistory) is = cc
 never_read (refusal.Case fault.NoMemory) is = cc
 never_read refusal.NoCurves is = cc
 never_read refusal.LongCurves is = cc
@@ -80,6 +84,7 @@ only_bad : (e : Refusal) → ending.BadCase ≡ refusal_status e → (f : File) 
 only_bad (refusal.Case (fault.Folder f)) is = cc
 only_bad (refusal.Case (fault.TooLong f)) is = cc
 only_bad (refusal.Case (fault.Bad f row cause)) is = (f, row, cause, refl)
+only_bad (refusal.Case fault.NoHistory) is = cc
 only_bad (refusal.Case fault.NoMemory) is = cc
 only_bad refusal.NoCurves is = cc
 only_bad refusal.LongCurves is = cc
@@ -91,6 +96,7 @@ only_long : (e : Refusal) → ending.TooLong ≡ refusal_status e → IsLong e
 only_long (refusal.Case (fault.Folder f)) is = cc
 only_long (refusal.Case (fault.TooLong f)) is = tt
 only_long (refusal.Case (fault.Bad f row cause)) is = cc
+only_long (refusal.Case fault.NoHistory) is = cc
 only_long (refusal.Case fault.NoMemory) is = cc
 only_long refusal.NoCurves is = cc
 only_long refusal.LongCurves is = tt
@@ -109,10 +115,10 @@ pub routed : (which : RouteLines) (told : Option Files) (text : List ℕ) → Is
 routed which told text (Ok t, (says, file), ok, is) = subst (IsRoutesFile which told) (sym is) file
 routed which told text (Err e, says, ok, is) = absurd (never_ok e ok)
 
-curves_in : (told : Option Files) (text t : List ℕ) (s : ScenarioData) → Describes told (Ok s) → IsLoadingText s t → t ≡ text → (s : ScenarioData) × Describes told (Ok s) × IsLoadingText s text
+curves_in : (told : Option Files) (text t : List ℕ) (s : ScenarioData) → DescribesKept told (Ok s) → IsLoadingText s t → t ≡ text → (s : ScenarioData) × DescribesKept told (Ok s) × IsLoadingText s text
 curves_in told text t s describes is same = (s, describes, subst (IsLoadingText s) same is)
 
-pub curves_loaded : (told : Option Files) (text : List ℕ) → IsAnswerUnder ask.Curves told ending.Ok text → (s : ScenarioData) × Describes told (Ok s) × IsLoadingText s text
+pub curves_loaded : (told : Option Files) (text : List ℕ) → IsAnswerUnder ask.Curves told ending.Ok text → (s : ScenarioData) × DescribesKept told (Ok s) × IsLoadingText s text
 curves_loaded told text (Ok t, (Ok u, (Ok s, describes, (w, loading, same)), also), ok, is) = let equal : w ≡ text = cc in curves_in told text w s describes loading equal
 curves_loaded told text (Ok t, (Ok u, (Err fault, describes, same), also), ok, is) = cc
 curves_loaded told text (Ok t, (Err fault, says, also), ok, is) = cc
@@ -132,6 +138,25 @@ bad_told command told text (Ok t, says, ok, is) = cc
 bad_told command told text (Err e, says, ok, is) =
     let h = only_bad e ok in
     (h.0, h.1, h.2, subst (λ x. Answers command told (Err x)) h.3 says, is ∙ ap words_of h.3)
+
+only_kept : (e : Refusal) → ending.NoHistory ≡ refusal_status e → e ≡ refusal.Case fault.NoHistory
+only_kept (refusal.Case (fault.Folder f)) is = cc
+only_kept (refusal.Case (fault.TooLong f)) is = cc
+only_kept (refusal.Case (fault.Bad f row cause)) is = cc
+only_kept (refusal.Case fault.NoHistory) is = refl
+only_kept (refusal.Case fault.NoMemory) is = cc
+only_kept refusal.NoCurves is = cc
+only_kept refusal.LongCurves is = cc
+only_kept (refusal.BadCurves row cause) is = cc
+only_kept refusal.NoStart is = cc
+only_kept (refusal.NoStep node slot) is = cc
+
+pub kept_told : (command : Command) (told : Option Files) (text : List ℕ) → IsAnswerUnder command told ending.NoHistory text
+    → Answers command told (Err (refusal.Case fault.NoHistory)) × (text ≡ no_history_line)
+kept_told command told text (Ok t, says, ok, is) = cc
+kept_told command told text (Err e, says, ok, is) =
+    let h = only_kept e ok in
+    (subst (λ x. Answers command told (Err x)) h says, is ∙ ap words_of h)
 
 pub long_told : (command : Command) (told : Option Files) (text : List ℕ) → IsAnswerUnder command told ending.TooLong text
     → (e : Refusal) × IsLong e × Answers command told (Err e) × (text ≡ words_of e)
@@ -162,6 +187,7 @@ case_only : (e : Refusal) (f : CaseFault) → IsMissing e → answer_of (Err f) 
 case_only e (fault.Folder x) missing same = (x, cc, refl)
 case_only e (fault.TooLong x) missing same = let is : e ≡ refusal.Case (fault.TooLong x) = cc in absurd (subst IsMissing is missing)
 case_only e (fault.Bad x row cause) missing same = let is : e ≡ refusal.Case (fault.Bad x row cause) = cc in absurd (subst IsMissing is missing)
+case_only e fault.NoHistory missing same = let is : e ≡ refusal.Case fault.NoHistory = cc in absurd (subst IsMissing is missing)
 case_only e fault.NoMemory missing same = let is : e ≡ refusal.Case fault.NoMemory = cc in absurd (subst IsMissing is missing)
 
 report_missing : (Reports : ScenarioData → List ℕ → Type 0) (files : Files) (e : Refusal) (answer : Answer) → IsMissing e
@@ -193,6 +219,7 @@ check_missing : (files : Files) (e : Refusal) (answer : Answer) → IsMissing e 
 check_missing files (refusal.Case (fault.Folder f)) answer missing says other = missing_case files (fault.Folder f) answer says other
 check_missing files (refusal.Case (fault.TooLong f)) answer missing says other = absurd missing
 check_missing files (refusal.Case (fault.Bad f row cause)) answer missing says other = absurd missing
+check_missing files (refusal.Case fault.NoHistory) answer missing says other = absurd missing
 check_missing files (refusal.Case fault.NoMemory) answer missing says other = absurd missing
 check_missing files refusal.NoCurves answer missing says other = missing_curves files answer says other
 check_missing files refusal.LongCurves answer missing says other = absurd missing
@@ -212,6 +239,7 @@ missing_only : (e : Refusal) → ending.FolderFault ≡ refusal_status e → IsM
 missing_only (refusal.Case (fault.Folder f)) is = tt
 missing_only (refusal.Case (fault.TooLong f)) is = cc
 missing_only (refusal.Case (fault.Bad f row cause)) is = cc
+missing_only (refusal.Case fault.NoHistory) is = cc
 missing_only (refusal.Case fault.NoMemory) is = cc
 missing_only refusal.NoCurves is = tt
 missing_only refusal.LongCurves is = cc
@@ -233,6 +261,7 @@ pub missing_is : (e : Refusal) → IsMissing e → ending.FolderFault ≡ refusa
 missing_is (refusal.Case (fault.Folder f)) is = refl
 missing_is (refusal.Case (fault.TooLong f)) is = absurd is
 missing_is (refusal.Case (fault.Bad f row cause)) is = absurd is
+missing_is (refusal.Case fault.NoHistory) is = absurd is
 missing_is (refusal.Case fault.NoMemory) is = absurd is
 missing_is refusal.NoCurves is = refl
 missing_is refusal.LongCurves is = absurd is
@@ -245,6 +274,7 @@ pub told_given : (e : Refusal) → IsTold e → refusal_status e ≡ ending.Fold
 told_given (refusal.Case (fault.Folder f)) told is = absurd told
 told_given (refusal.Case (fault.TooLong f)) told is = cc
 told_given (refusal.Case (fault.Bad f row cause)) told is = cc
+told_given (refusal.Case fault.NoHistory) told is = cc
 told_given (refusal.Case fault.NoMemory) told is = cc
 told_given refusal.NoCurves told is = absurd told
 told_given refusal.LongCurves told is = cc

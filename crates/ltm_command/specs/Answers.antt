@@ -6,6 +6,7 @@ use Rattle.ltm_routes_command.specs.Data.{ScenarioData}
 use Rattle.ltm_casefile.specs.declared.faults.CaseFault.{CaseFault}
 use Rattle.ltm_casefile.specs.declared.faults.CaseFault.TheVariants as fault
 use Rattle.ltm_casefile.specs.Case.{case_of, asks_for, is_case_file}
+use Rattle.ltm_casefile.specs.KeptCase.{kept_case_of}
 use Rattle.ltm_casefile.specs.Roads.{is_of_roads}
 use Rattle.ltm_routes_command.specs.declared.lines.RouteLines.{RouteLines}
 use Rattle.ltm_routes_command.specs.declared.lines.RouteLines.TheVariants as lines
@@ -37,6 +38,10 @@ answer_of (Err fault) = Err (refusal.Case fault)
 -- what a folder tells of its files, where it tells anything, describes this case
 abbrev pub Describes : Option Files → Result ScenarioData CaseFault → Type 0
 Describes told said = IfSome told (λ files. case_of files ≡ said)
+
+-- the same of a case whose history is to be kept
+abbrev pub DescribesKept : Option Files → Result ScenarioData CaseFault → Type 0
+DescribesKept told said = IfSome told (λ files. kept_case_of files ≡ said)
 
 -- a text reports this of a case
 abbrev pub Reports : Report → ScenarioData → List ℕ → Type 0
@@ -82,6 +87,7 @@ abbrev pub AnswersFault : Command → Option Files → Refusal → Type 0
 AnswersFault command told (refusal.Case (fault.Folder file)) = Unit {0}
 AnswersFault command told (refusal.Case (fault.TooLong file)) = Answers command told (Err (refusal.Case (fault.TooLong file)))
 AnswersFault command told (refusal.Case (fault.Bad file row cause)) = Answers command told (Err (refusal.Case (fault.Bad file row cause)))
+AnswersFault command told (refusal.Case fault.NoHistory) = Answers command told (Err (refusal.Case fault.NoHistory))
 AnswersFault command told (refusal.Case fault.NoMemory) = Unit {0}
 AnswersFault command told refusal.NoCurves = Unit {0}
 AnswersFault command told refusal.LongCurves = Answers command told (Err refusal.LongCurves)

@@ -5,7 +5,7 @@ use Rattle.ltm_io.specs.Folder.{Files}
 use Rattle.ltm_io.specs.Faults.{Rose}
 use Rattle.ltm_casefile.specs.declared.faults.CaseFault.{CaseFault}
 use Rattle.ltm_casefile.specs.declared.faults.CaseFault.TheVariants as fault
-use Rattle.ltm_report.specs.CaseFaults.{bad_case_line, too_long_line}
+use Rattle.ltm_report.specs.CaseFaults.{bad_case_line, too_long_line, no_history_line}
 use Rattle.ltm_check_command.specs.declared.refusal.Refusal.{Refusal}
 use Rattle.ltm_check_command.specs.declared.refusal.Refusal.TheVariants as refusal
 use Rattle.ltm_check_command.specs.Lines.{bad_curves_line, no_start_line, no_step_line, long_curves_line}
@@ -21,6 +21,7 @@ abbrev pub refusal_of : CaseFault → List ℕ
 refusal_of (fault.Folder file) = []
 refusal_of (fault.TooLong file) = too_long_line file
 refusal_of (fault.Bad file row cause) = bad_case_line file row cause
+refusal_of fault.NoHistory = no_history_line
 refusal_of fault.NoMemory = []
 
 -- the line that refuses a case or its curve file
@@ -42,6 +43,7 @@ abbrev pub case_status : CaseFault → Status
 case_status (fault.Folder file) = ending.FolderFault
 case_status (fault.TooLong file) = ending.TooLong
 case_status (fault.Bad file row cause) = ending.BadCase
+case_status fault.NoHistory = ending.NoHistory
 case_status fault.NoMemory = ending.NoMemory
 
 -- the status of a refusal
@@ -63,6 +65,7 @@ abbrev pub IsMissing : Refusal → Type 0
 IsMissing (refusal.Case (fault.Folder file)) = Unit {0}
 IsMissing (refusal.Case (fault.TooLong file)) = ⊥
 IsMissing (refusal.Case (fault.Bad file row cause)) = ⊥
+IsMissing (refusal.Case fault.NoHistory) = ⊥
 IsMissing (refusal.Case fault.NoMemory) = ⊥
 IsMissing refusal.NoCurves = Unit {0}
 IsMissing refusal.LongCurves = ⊥
@@ -75,6 +78,7 @@ abbrev pub IsTold : Refusal → Type 0
 IsTold (refusal.Case (fault.Folder file)) = ⊥
 IsTold (refusal.Case (fault.TooLong file)) = Unit {0}
 IsTold (refusal.Case (fault.Bad file row cause)) = Unit {0}
+IsTold (refusal.Case fault.NoHistory) = Unit {0}
 IsTold (refusal.Case fault.NoMemory) = ⊥
 IsTold refusal.NoCurves = ⊥
 IsTold refusal.LongCurves = Unit {0}
@@ -87,6 +91,7 @@ abbrev pub IsLong : Refusal → Type 0
 IsLong (refusal.Case (fault.Folder file)) = ⊥
 IsLong (refusal.Case (fault.TooLong file)) = Unit {0}
 IsLong (refusal.Case (fault.Bad file row cause)) = ⊥
+IsLong (refusal.Case fault.NoHistory) = ⊥
 IsLong (refusal.Case fault.NoMemory) = ⊥
 IsLong refusal.NoCurves = ⊥
 IsLong refusal.LongCurves = Unit {0}
@@ -112,6 +117,7 @@ IsWhole ending.NoMemory = ⊥
 IsWhole ending.BadCurves = Unit {0}
 IsWhole ending.NotLoading = Unit {0}
 IsWhole ending.BadScript = Unit {0}
+IsWhole ending.NoHistory = Unit {0}
 
 -- ---- faults of the folder
 -- a command may fetch the file: one of its own, and where the folder tells its files one that it asks them for

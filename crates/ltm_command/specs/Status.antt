@@ -17,3 +17,4 @@ number_of status.NoMemory = 9
 number_of status.BadCurves = 11
 number_of status.NotLoading = 12
 number_of status.BadScript = 13
+number_of status.NoHistory = 14

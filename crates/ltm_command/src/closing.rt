@@ -2,12 +2,12 @@
 ghost use Rattle.std.specs.Prelude.{◌≡◌, ◌≤◌, ◌⊎◌, List, ℕ};
 ghost use Rattle.ltm_io.specs.Faults.{Rose};
 ghost use Rattle.ltm_io.specs.Sink.{appended, AppendsFront};
-ghost use Rattle.ltm_report.specs.CaseFaults.{bad_case_line, too_long_line};
+ghost use Rattle.ltm_report.specs.CaseFaults.{bad_case_line, too_long_line, no_history_line};
 
 use crate::status::Status;
 use ltm_casefile::{CaseCause, CaseFault, File};
 use ltm_io::{Sink, SinkError, write_all_known};
-use ltm_report::{case_fault_text, too_long_text};
+use ltm_report::{case_fault_text, no_history_text, too_long_text};
 use std::alloc::Global;
 
 /// Writes a whole text, and says how the program ends where that went well.
@@ -66,6 +66,23 @@ pub fn refuse_case<W: Sink>(
     let mut line = Vec::new(alloc);
     match case_fault_text(alloc, &fault, &mut line) {
         Ok(()) => write_text(output, line.as_slice(), Status::BadCase),
+        Err(_) => Status::NoMemory,
+    }
+}
+
+/// Says that the case keeps no history.
+pub fn refuse_history<W: Sink>(alloc: Global, output: &mut W) -> Status
+    ensures answers { (result ≡ Status.NoHistory)
+        ⊎ ((result ≡ Status.WriteFault) ⊎ (result ≡ Status.NoMemory)) }
+    ensures wrote { result ≡ Status.NoHistory
+        → W.written output.new ≡ appended no_history_line (W.written output.old) }
+    ensures front { (W.written output.new ≡ W.written output.old)
+        ⊎ AppendsFront (W.written output.old) (W.written output.new) no_history_line }
+    ensures cause { result ≡ Status.WriteFault → Rose (W.faults output.old) (W.faults output.new) }
+{
+    let mut line = Vec::new(alloc);
+    match no_history_text(alloc, &mut line) {
+        Ok(()) => write_text(output, line.as_slice(), Status::NoHistory),
         Err(_) => Status::NoMemory,
     }
 }

@@ -7,7 +7,7 @@ ghost use Rattle.ltm_command.specs.Run.{IsRun, outside};
 use crate::refusing::refuse_fault;
 use crate::status::Status;
 use crate::words::Command;
-use ltm_casefile::read_case;
+use ltm_casefile::read_kept_case;
 use ltm_check_command::write_loading;
 use ltm_io::{Folder, Sink, SinkError};
 use std::alloc::Global;
@@ -23,7 +23,7 @@ pub fn run_curves<F: Folder, W: Sink>(alloc: Global, folder: &mut F, output: &mu
         (outside (F.told folder.new) (F.faults folder.new) left read_faults (W.written output.new)
         (W.faults output.new)) }
 {
-    match read_case(alloc, folder) {
+    match read_kept_case(alloc, folder) {
         Ok(scenario) => match write_loading(alloc, &scenario, output) {
             Ok(()) => return Status::Ok,
             Err(SinkError::WriteFault) => return Status::WriteFault,

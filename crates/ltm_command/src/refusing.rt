@@ -7,7 +7,7 @@ ghost use Rattle.ltm_check_command.specs.declared.refusal.Refusal.{Refusal};
 ghost use Rattle.ltm_check_command.specs.Lines.{bad_curves_line, no_start_line, no_step_line, long_curves_line};
 ghost use Rattle.ltm_command.specs.Program.{IsWhole, IsTold, IsMissing, words_of, refusal_status};
 
-use crate::closing::{refuse_case, refuse_length, write_text};
+use crate::closing::{refuse_case, refuse_history, refuse_length, write_text};
 use crate::status::Status;
 use ltm_casefile::CaseFault;
 use ltm_check::CurvesCause;
@@ -98,6 +98,7 @@ pub fn refuse_fault<W: Sink>(alloc: Global, fault: CaseFault, output: &mut W) ->
         CaseFault::Folder(_) => Status::FolderFault,
         CaseFault::TooLong(file) => refuse_length(alloc, file, output),
         CaseFault::Bad { file, row, cause } => refuse_case(alloc, file, row, cause, output),
+        CaseFault::NoHistory => refuse_history(alloc, output),
         CaseFault::NoMemory => Status::NoMemory,
     }
 }

@@ -31,6 +31,8 @@ pub enum Status {
     NotLoading,
     /// 13: a line of a file of edits is no edit, and a line that says which is written.
     BadScript,
+    /// 14: the case keeps no history, which the command needs, and a line that says so is written.
+    NoHistory,
 }
 
 impl Status {
@@ -51,6 +53,7 @@ impl Status {
             Status::BadCurves => 11,
             Status::NotLoading => 12,
             Status::BadScript => 13,
+            Status::NoHistory => 14,
         }
     }
 }

@@ -24,7 +24,7 @@ pub record DoneData : Type 0 where
   pub ticket : ℕ
   pub solved : Solution
 
--- there is room for the inputs and the counts of any pair: at most 5 arms, 4 out-links and 256 destinations
+-- there is room for the inputs and the counts of any pair: at most 5 arms, 4 out-links and 2,000 destinations
 pub record HasWidestRoom (n : Inputs) (o : Outputs) : Type 0 where
   pub inputs : widest_row ≤ n.room
   pub outputs : widest_row ≤ o.room

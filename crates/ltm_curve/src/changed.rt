@@ -46,7 +46,7 @@ impl Changed {
         ensures shape { IfOk result (λ c. HasCells c groups slots) }
         ensures none { IfOk result NoneChanged }
     {
-        if groups > 65_536 || slots >= 65_536 {
+        if groups > 262_144 || slots >= 262_144 {
             return Err(NoMemory);
         }
         let marks = Marks::create(alloc, groups as usize, slots as usize + 1)?;
@@ -160,7 +160,7 @@ impl Changed {
         ensures no_less { cell_room self.old ≤ cell_room self.new }
         ensures stays { OnErr result (cell_room self.new ≡ cell_room self.old) }
     {
-        if slots >= 65_536 {
+        if slots >= 262_144 {
             return Err(NoMemory);
         }
         self.marks.reserve(slots as usize + 1)

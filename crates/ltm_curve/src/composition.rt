@@ -123,6 +123,9 @@ fn first_less_at<R: Rows>(rows: &R, n: u64, last: u32, end: u32, less: &[u32], i
     }
 }
 
+/// A 0 for each destination that a case may have.
+static NOTHING: [u32; 2_000] = [0; 2_000];
+
 impl Curves {
     ghost use Rattle.ltm_curve.specs.Table.{groups_of, destinations_of, slots_of, counts_of, total_of};
     ghost use Rattle.ltm_curve.specs.FirstOf.{AreFirst};
@@ -138,13 +141,12 @@ impl Curves {
         ensures { (d : ℕ) → d < destinations_of self.now → slice_index into.new d
             ≡ first_units (destinations_of self.now) (counts_of self.now group) n last d }
     {
-        let none = [0u32; 256];
         let rows = Group {
             curves: self,
             group,
         };
         let destinations = self.destinations() as usize;
-        first_less_of(&rows, n, last, &none[..destinations], into);
+        first_less_of(&rows, n, last, &NOTHING[..destinations], into);
     }
 
     /// The same less the counts of a group at a boundary, in one pass: of the first units that entered a link, say, those

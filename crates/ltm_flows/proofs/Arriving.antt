@@ -68,14 +68,14 @@ gone_is_arrived s c f links nodes k law v h l n x sums =
     omega (arith, same, at, (law s c v h k x).1)
 
 -- and no more than a table holds
-pub arrived_small : (s : Setting) (c : Counts) (k : ℕ) → CountsSmall → IsSetting s → IsLoading s c → s.destinations ≤ 256 → k ≤ s.slots → arrived s c k ≤ most_total
+pub arrived_small : (s : Setting) (c : Counts) (k : ℕ) → CountsSmall → IsSetting s → IsLoading s c → s.destinations ≤ 2000 → k ≤ s.slots → arrived s c k ≤ most_total
 arrived_small s c k law v h few x =
     let front : IsFront s c k = record { empty = h.front.empty; steps = λ u t y z. h.front.steps u t y (omega (arith, z, x)) } in
     let each : (d : ℕ) → d < s.destinations → c (arr_of s) d k ≤ 1600000000 = λ d y. omega (arith, (law s c v k front x d y).1.1, x, v.small.few_slots) in
     let sum : arrived s c k ≤ s.destinations * 1600000000 = sum_below-most s.destinations (λ d. c (arr_of s) d k) 1600000000 each in
     omega (arith, sum, few)
 
-pub moved_small : (s : Setting) (f : ℕ → ℕ → ℕ) (links nodes k : ℕ) → AddsUp → CountsSmall → IsSetting s → AreMovedTotals s f → links ≡ s.links → nodes ≡ s.nodes → s.destinations ≤ 256 → k ≤ s.slots →
+pub moved_small : (s : Setting) (f : ℕ → ℕ → ℕ) (links nodes k : ℕ) → AddsUp → CountsSmall → IsSetting s → AreMovedTotals s f → links ≡ s.links → nodes ≡ s.nodes → s.destinations ≤ 2000 → k ≤ s.slots →
     gone_through f links nodes k ≤ most_total
 moved_small s f links nodes k law small v m l n few x =
     let is : gone_through f links nodes k ≡ arrived s m.counts k = gone_is_arrived s m.counts f links nodes k law v m.loading l n x (λ g y. m.sums g k y x) in

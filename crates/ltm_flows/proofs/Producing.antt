@@ -1,5 +1,5 @@
 -- Where amounts lie in their table, and what one that is set makes of it.
-use Rattle.std.proofs.Common.{◌≡◌, ◌≢◌, ℕ, ◌+◌, ◌*◌, ◌<◌, ◌≤◌, ◌⊎◌, List, length, replicate, slice_index, slice_index_or, slice_set, ◌++◌, arith, inl, inr, ap, sym, subst, ◌∙◌, get_or-set_same, get_or-set_other}
+use Rattle.std.proofs.Common.{◌≡◌, ◌≢◌, ℕ, ◌+◌, ◌-◌, ◌*◌, ◌%◌, ◌^◌, ◌<◌, ◌≤◌, ◌⊎◌, List, length, replicate, slice_index, slice_index_or, slice_set, ◌++◌, arith, inl, inr, ap, sym, subst, ◌∙◌, get_or-set_same, get_or-set_other}
 use Rattle.std.proofs.Math.Nat.{mul-le-mul_right}
 use Rattle.std.proofs.lemmas.Bool.{cases_eq, cases_lt}
 use Rattle.std.proofs.lemmas.Nat.{same_from_place}
@@ -37,7 +37,7 @@ none_are nodes last xs is =
     record {
       long = ap length is ∙ length-replicate ((last + 1) * (nodes + 1)) 0;
       small = λ n k l m. omega (arith, none n k (omega (arith, l)) m);
-      adds_up = λ k m. none nodes k (omega arith) m ∙ sym (sum_below-zero nodes (λ n. amount_at xs nodes n k) (λ n l. none n k (omega (arith, l)) m));
+      adds_up = λ k m. omega (arith, none nodes k (omega arith) m, sum_below-zero nodes (λ n. amount_at xs nodes n k) (λ n l. none n k (omega (arith, l)) m));
     }
 
 pub nothing_at : (nodes last : ℕ) (xs : List ℕ) → xs ≡ replicate ((last + 1) * (nodes + 1)) 0 → (n k : ℕ) → n < nodes → k ≤ last → amount_at xs nodes n k ≡ 0
@@ -56,9 +56,9 @@ more_are nodes last more xs ys zeros are l is long =
       small = λ n k m b. elim (cases_lt last k) [ inl past ↦ omega (arith, new n k past) | inr low ↦ omega (arith, old n k (omega (arith, m)) low, are.small n k m low) ];
       adds_up = λ k b.
           elim (cases_lt last k) [
-            | inl past ↦ new nodes k past ∙ sym (sum_below-zero nodes (λ n. amount_at ys nodes n k) (λ n m. new n k past))
+            | inl past ↦ omega (arith, new nodes k past, sum_below-zero nodes (λ n. amount_at ys nodes n k) (λ n m. new n k past))
             | inr low ↦
-                old nodes k (omega arith) low ∙ (are.adds_up k low ∙ sum_below-same nodes (λ n. amount_at xs nodes n k) (λ n. amount_at ys nodes n k) (λ n m. sym (old n k (omega (arith, m)) low)))
+                old nodes k (omega arith) low ∙ (are.adds_up k low ∙ ap (λ (z : ℕ). z % 2 ^ 64) (sum_below-same nodes (λ n. amount_at xs nodes n k) (λ n. amount_at ys nodes n k) (λ n m. sym (old n k (omega (arith, m)) low))))
           ];
     }
 
@@ -96,25 +96,22 @@ both_other nodes last n k one all amount whole xs at b j c x y =
     let off_one : place ≢ one = λ e. places_apart nodes b j n k c (omega (arith, at.is_node)) x (e ∙ at.one_is) in
     get_or-set_other (slice_set xs one amount) all place whole 0 off_all ∙ get_or-set_other xs one place amount 0 off_one
 
--- no amount of a node is greater than what all come to, and that is no more than they may have in all
-pub one_in_all : (nodes last n k : ℕ) (xs : List ℕ) → AreAmounts nodes last xs → n < nodes → k ≤ last → amount_at xs nodes n k ≤ amount_at xs nodes nodes k
-one_in_all nodes last n k xs are l b = omega (arith, are.adds_up k b, le-sum_below nodes (λ i. amount_at xs nodes i k) n l)
-
-pub all_small : (nodes last k : ℕ) (xs : List ℕ) → AreAmounts nodes last xs → k ≤ last → amount_at xs nodes nodes k ≤ nodes * most_produced
-all_small nodes last k xs are b = omega (arith, are.adds_up k b, sum_below-most nodes (λ i. amount_at xs nodes i k) most_produced (λ i l. are.small i k l b))
+-- what 64 bits hold of a sum in which one amount became another
+renewed : (was now all one amount : ℕ) → all ≡ was % 2 ^ 64 → one ≤ most_produced → one ≤ was → now + one ≡ was + amount → ((all + (2 ^ 64 - one)) % 2 ^ 64 + amount) % 2 ^ 64 ≡ now % 2 ^ 64
+renewed was now all one amount held few within changed = omega (arith, held, few, within, changed)
 
 -- the sum of the amounts of a boundary, of which one is another
 row_sum : (nodes last n k one all amount whole : ℕ) (xs : List ℕ) → AreAmounts nodes last xs → AtPlaces nodes last n k one all →
-    sum_below nodes (λ i. amount_at (set_both xs one amount all whole) nodes i k) + amount_at xs nodes n k ≡ amount_at xs nodes nodes k + amount
+    sum_below nodes (λ i. amount_at (set_both xs one amount all whole) nodes i k) + amount_at xs nodes n k ≡ sum_below nodes (λ i. amount_at xs nodes i k) + amount
 row_sum nodes last n k one all amount whole xs are at =
     let ys : List ℕ = set_both xs one amount all whole in
     let change : sum_below nodes (λ i. amount_at ys nodes i k) + amount_at xs nodes n k ≡ sum_below nodes (λ i. amount_at xs nodes i k) + amount_at ys nodes n k =
     sum_below-change nodes (λ i. amount_at ys nodes i k) (λ i. amount_at xs nodes i k) n at.is_node
     (λ i l other. both_other nodes last n k one all amount whole xs at i k (omega (arith, l)) (inl other) (inl (λ e. absurd (omega (arith, e, l))))) in
-    omega (arith, change, are.adds_up k at.is_boundary, both_here nodes last n k one all amount whole xs are at)
+    omega (arith, change, both_here nodes last n k one all amount whole xs are at)
 
 pub both_are : (nodes last n k one all amount whole : ℕ) (xs : List ℕ) → AreAmounts nodes last xs → AtPlaces nodes last n k one all → amount ≤ most_produced →
-    whole + amount_at xs nodes n k ≡ amount_at xs nodes nodes k + amount → AreAmounts nodes last (set_both xs one amount all whole)
+    whole ≡ ((amount_at xs nodes nodes k + (2 ^ 64 - amount_at xs nodes n k)) % 2 ^ 64 + amount) % 2 ^ 64 → AreAmounts nodes last (set_both xs one amount all whole)
 both_are nodes last n k one all amount whole xs are at few is =
     let ys : List ℕ = set_both xs one amount all whole in
     record {
@@ -134,13 +131,17 @@ both_are nodes last n k one all amount whole xs are at few is =
       adds_up = λ j m.
           elim (cases_eq j k) [
             | inl boundary ↦
-                let here : amount_at ys nodes nodes k ≡ sum_below nodes (λ i. amount_at ys nodes i k) =
-                omega (arith, both_whole nodes last n k one all amount whole xs are at, row_sum nodes last n k one all amount whole xs are at, is) in
-                subst (λ (z : ℕ). amount_at ys nodes nodes z ≡ sum_below nodes (λ i. amount_at ys nodes i z)) (sym boundary) here
+                let here : amount_at ys nodes nodes k ≡ sum_below nodes (λ i. amount_at ys nodes i k) % 2 ^ 64 =
+                both_whole nodes last n k one all amount whole xs are at
+                ∙ (is
+                ∙ renewed (sum_below nodes (λ i. amount_at xs nodes i k)) (sum_below nodes (λ i. amount_at ys nodes i k)) (amount_at xs nodes nodes k) (amount_at xs nodes n k) amount
+                (are.adds_up k at.is_boundary) (are.small n k at.is_node at.is_boundary) (le-sum_below nodes (λ i. amount_at xs nodes i k) n at.is_node) (row_sum nodes last n k one all amount whole xs are at)) in
+                subst (λ (z : ℕ). amount_at ys nodes nodes z ≡ sum_below nodes (λ i. amount_at ys nodes i z) % 2 ^ 64) (sym boundary) here
             | inr other ↦
                 both_other nodes last n k one all amount whole xs at nodes j (omega arith) (inr other) (inr other)
                 ∙ (are.adds_up j m
-                ∙ sum_below-same nodes (λ i. amount_at xs nodes i j) (λ i. amount_at ys nodes i j) (λ i l. sym (both_other nodes last n k one all amount whole xs at i j (omega (arith, l)) (inr other) (inr other))))
+                ∙ ap (λ (z : ℕ). z % 2 ^ 64)
+                (sum_below-same nodes (λ i. amount_at xs nodes i j) (λ i. amount_at ys nodes i j) (λ i l. sym (both_other nodes last n k one all amount whole xs at i j (omega (arith, l)) (inr other) (inr other)))))
           ];
     }
 
@@ -166,8 +167,6 @@ pub record AreRead (p : Production) (node boundary one all was whole : ℕ) : Ty
   pub at : AtPlaces p.nodes p.room node boundary one all
   pub was_is : was ≡ amount_at p.amounts.items p.nodes node boundary
   pub whole_is : whole ≡ amount_at p.amounts.items p.nodes p.nodes boundary
-  pub within : was ≤ whole
-  pub small : whole ≤ p.nodes * most_produced
 
 pub are_read : (p : Production) (node boundary one all was whole : ℕ) → node < p.nodes → boundary ≤ p.room → one ≡ boundary * (p.nodes + 1) + node → all ≡ boundary * (p.nodes + 1) + p.nodes →
     was ≡ slice_index_or p.amounts.items one was → whole ≡ slice_index_or p.amounts.items all whole → AreRead p node boundary one all was whole
@@ -179,6 +178,4 @@ are_read p node boundary one all was whole l b one_is all_is is_was is_whole =
       at = record { is_node = l; is_boundary = b; one_is = one_is; all_is = all_is };
       was_is = first;
       whole_is = second;
-      within = omega (arith, first, second, one_in_all p.nodes p.room node boundary xs p.are l b);
-      small = omega (arith, second, all_small p.nodes p.room boundary xs p.are b);
     }

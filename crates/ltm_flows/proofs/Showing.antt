@@ -1,6 +1,7 @@
 -- What is read from a loading is that of its setting.
 use Rattle.std.proofs.Common.{◌≡◌, ℕ, ◌+◌, ◌-◌, ◌*◌, ◌/◌, ◌%◌, ◌<◌, ◌≤◌, arith, inl, inr, ap, ◌∙◌, subst}
 use Rattle.std.proofs.lemmas.Bool.{cases_lt, cases_eq}
+use Rattle.ltm_units.specs.Bounds.{most_produced}
 use Rattle.ltm_units.specs.Sums.{sum_below}
 use Rattle.ltm_units.proofs.Sums.{sum_below-same, sum_below-zero}
 use Rattle.ltm_curve.specs.Counts.{Counts, total}
@@ -98,10 +99,11 @@ pub shown_left : (s : Setting) (v : ℕ) (c : Counts) (l : Loading) → ShowsCou
 shown_left s v c l h i x = at_last s v c l h (down_of i) (omega (arith, h.links))
 
 -- where each origin has produced what it produces in a setting, so have all together
-pub all_produced_is : (s : Setting) (p : Production) (k : ℕ) → p.nodes ≡ s.nodes → k ≤ p.room → ((n : ℕ) → n < s.nodes → produced_in p n k ≡ produced_in_all s n k) → all_produced p k ≡ generated s k
-all_produced_is s p k nodes within each =
-    p.are.adds_up k within
-    ∙ (sum_below-same p.nodes (λ n. produced_in p n k) (λ n. produced_in_all s n k) (λ n l. each n (omega (arith, l, nodes))) ∙ ap (λ (z : ℕ). sum_below z (λ n. produced_in_all s n k)) nodes)
+pub all_produced_is : (s : Setting) (p : Production) (k : ℕ) → p.nodes ≡ s.nodes → k ≤ p.room → ((n : ℕ) → n < s.nodes → produced_in p n k ≡ produced_in_all s n k) → generated s k ≤ most_produced → all_produced p k ≡ generated s k
+all_produced_is s p k nodes within each few =
+    let all : sum_below p.nodes (λ n. produced_in p n k) ≡ generated s k =
+    (sum_below-same p.nodes (λ n. produced_in p n k) (λ n. produced_in_all s n k) (λ n l. each n (omega (arith, l, nodes))) ∙ ap (λ (z : ℕ). sum_below z (λ n. produced_in_all s n k)) nodes) in
+    omega (arith, p.are.adds_up k within, all, few)
 
 -- sums of totals that are those of a setting's counts are its totals
 pub sums_are_totals : (s : Setting) (c : Counts) (totals : ℕ → ℕ → ℕ) (links nodes k produced : ℕ) (t : Totals) → links ≡ s.links → nodes ≡ s.nodes → produced ≡ generated s k → ((g : ℕ) → g < groups s → totals g k ≡ total s.destinations (c g) k) →

@@ -10,13 +10,14 @@ use crate::loading_totals::Totals;
 use crate::sums::sum_up;
 use ltm_curve::Curves;
 use ltm_scenario::Scenario;
-use ltm_setting::{link_count, node_count, produced_total, slot_count};
+use ltm_setting::{link_count, little_is_produced, node_count, produced_total, slot_count};
 use ltm_units::NodeId;
 
 /// What all origins have produced.
 fn generated_at_end(scenario: &Scenario) -> u64
     ensures { result ≡ generated (setting_of scenario.now) (setting_of scenario.now).slots }
 {
+    little_is_produced(scenario);
     let last = slot_count(scenario);
     let mut sum = 0;
     for node in 0..node_count(scenario) {

@@ -20,7 +20,7 @@ use crate::tables::{free_times, production, write_free_times};
 use ltm_curve::{Changed, Curves, TotalCurves};
 use ltm_loading::{never_fall, totals_small};
 use ltm_scenario::Scenario;
-use ltm_setting::{is_setting, link_count, node_count, step};
+use ltm_setting::{is_setting, link_count, little_is_produced, node_count, step};
 use ltm_units::{LinkId, Millis, NoMemory, NodeId};
 use std::alloc::Global;
 
@@ -99,6 +99,7 @@ impl Loading {
         totals_small();
         never_fall();
         is_setting(scenario);
+        little_is_produced(scenario);
         let free = free_times(alloc, scenario)?;
         let production = production(alloc, scenario)?;
         let curves = TotalCurves::of(alloc, curves)?;
@@ -128,6 +129,7 @@ impl Loading {
     {
         never_fall();
         is_setting(scenario);
+        little_is_produced(scenario);
         let mut curves = curves;
         write_arrivals(scenario, &mut curves);
         let free = free_times(alloc, scenario)?;
@@ -195,6 +197,7 @@ impl Loading {
         totals_small();
         never_fall();
         is_setting(scenario);
+        little_is_produced(scenario);
         write_free_times(scenario, &mut self.free);
         self.production
             .renew(scenario, self.curves.slots() + 1, curves.slots() + 1);

@@ -2,7 +2,7 @@
 //!
 //! The amounts of a boundary lie side by side, so that a longer horizon appends: that of each node, and behind them that of
 //! all nodes together, which is kept at what the others come to. The words of `specs/Production.antt` say so.
-ghost use Rattle.std.specs.Prelude.{◌≡◌, ℕ, ◌+◌, ◌-◌, ◌*◌, ◌<◌, ◌≤◌, ◌++◌, length, replicate, IfOk, OnOk, OnErr};
+ghost use Rattle.std.specs.Prelude.{◌≡◌, ℕ, ◌+◌, ◌-◌, ◌*◌, ◌%◌, ◌^◌, ◌<◌, ◌≤◌, ◌++◌, length, replicate, IfOk, OnOk, OnErr};
 ghost use Rattle.ltm_units.specs.Sums.{sum_below};
 ghost use Rattle.ltm_flows.specs.Amounts.{amount_at, AreAmounts};
 ghost use Rattle.ltm_setting.specs.Setting.{setting_of};
@@ -108,12 +108,12 @@ impl Production {
         self.amounts[self.place(node.0, boundary)]
     }
 
-    /// What all origins have produced by a boundary.
+    /// What all origins have produced by a boundary, as 64 bits hold it: all of it where they are those of a scenario.
     #[inline]
     pub fn all(&self, boundary: u32) -> u64
         requires { boundary ≤ self.now.room }
         ensures value { result ≡ all_produced self.now boundary }
-        ensures sum { result ≡ sum_below self.now.nodes (λ n. produced_in self.now n boundary) }
+        ensures sum { result ≡ sum_below self.now.nodes (λ n. produced_in self.now n boundary) % 2 ^ 64 }
     {
         self.amounts[self.place(self.nodes, boundary)]
     }
@@ -144,9 +144,9 @@ impl Production {
     {
         let one = self.place(node.0, boundary);
         let all = self.place(self.nodes, boundary);
-        let others = self.amounts[all] - self.amounts[one];
+        let others = self.amounts[all].wrapping_sub(self.amounts[one]);
         self.amounts[one] = amount;
-        self.amounts[all] = others + amount;
+        self.amounts[all] = others.wrapping_add(amount);
     }
 
     /// Writes what the origin of a node has produced by each boundary from one up to, and without, another.

@@ -14,7 +14,9 @@ use crate::parts::{all_sums, joined, sums_of};
 use ltm_curve::Curves;
 use ltm_flows::Loading;
 use ltm_scenario::Scenario;
-use ltm_setting::{arr_of, destination_count, is_setting, node_count, produced, slot_count, step};
+use ltm_setting::{
+    arr_of, destination_count, is_setting, little_is_produced, node_count, produced, slot_count, step,
+};
 use ltm_units::{NoMemory, NodeId};
 use std::alloc::Global;
 use std::thread::Threads;
@@ -82,6 +84,7 @@ fn produced_to(scenario: &Scenario, destination: u32, boundary: u32) -> u64
     ensures value { result ≡ sum_below (setting_of scenario.now).nodes
         (λ origin. (setting_of scenario.now).produced origin destination boundary) }
 {
+    little_is_produced(scenario);
     let mut sum = 0u64;
     for origin in 0..node_count(scenario) {
         sum += produced(scenario, NodeId(origin), destination, boundary);

@@ -11,7 +11,7 @@ use ltm_scenario::Scenario;
 use ltm_setting::{by_turn, destination_at, destination_count, in_links, node_count, out_links};
 use ltm_units::NodeId;
 
-/// The shape of a node of a scenario: at most 5 arms, 4 out-links and 256 destinations.
+/// The shape of a node of a scenario: at most 5 arms, 4 out-links and 2,000 destinations.
 #[inline]
 pub fn shape_of(scenario: &Scenario, node: NodeId) -> NodeShape
     requires { IsNode scenario.now node.0 }

@@ -1,5 +1,5 @@
 -- A scenario whose nodes are covered by split rows from slot 0 is valid.
-use Rattle.std.proofs.Common.{◌≡◌, ℕ, suc, ◌+◌, ◌*◌, ◌<◌, ◌≤◌, ◌==◌, ◌&&◌, ◌||◌, Bool, true, false, cond, nat_le, List, [], ◌∷◌, length, get_or, refl, ap, ◌∙◌, arith}
+use Rattle.std.proofs.Common.{◌≡◌, ℕ, suc, ◌+◌, ◌*◌, ◌<◌, ◌≤◌, ◌==◌, ◌&&◌, ◌||◌, not, Bool, true, false, cond, nat_le, List, [], ◌∷◌, length, get_or, refl, ap, ◌∙◌, arith}
 use Rattle.std.specs.List.{list_all, zip, range_with_len}
 use Rattle.std.proofs.lemmas.List.Sums.{list_all-from_AllPass, sum_by-le}
 use Rattle.std.proofs.lemmas.List.Folds.{list_any_at}
@@ -103,5 +103,5 @@ is_valid s is h = record {
       let r = is.splits k d l in
       links_lead s h (get_or s.splits k d).0.destination (omega (arith, r.destination_is_one, h.two)) (out_links s.network (get_or s.splits k d).0.node.0) (get_or s.splits k d).1
       (λ i x. is.network.head_is_node (get_or (out_links s.network (get_or s.splits k d).0.node.0) i 0) ((has_places s.network).out_link_is_link (get_or s.splits k d).0.node.0 i x)));
-  small = ap (nat_le (cells s)) (ap (λ (z : Setup). z.most_cells) h.setup) ∙ true_le (cells s) default_cells (few_cells s is h);
+  small = ap (λ (z : Setup). not z.history || nat_le (cells s) z.most_cells) h.setup ∙ true_le (cells s) default_cells (few_cells s is h);
 }

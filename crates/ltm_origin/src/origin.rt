@@ -16,6 +16,9 @@ use ltm_scenario::Scenario;
 use ltm_setting::{destination_count, is_setting, origin_capacity, produced_total, slot_count};
 use ltm_units::NodeId;
 
+/// A 0 for each destination that a case may have.
+static NOTHING: [u32; 2_000] = [0; 2_000];
+
 /// Takes numbers from others, place by place, down to 0.
 fn take_away(less: &[u32], from: &mut [u64])
     requires { length less.now ≡ length from.old }
@@ -60,12 +63,11 @@ pub fn origin_sends_listed(
         into.fill(0);
         return;
     }
-    let none = [0u32; 256];
     let rows = Listed {
         scenario,
         node,
         list,
     };
-    first_less_of(&rows, goal, slot + 1, &none[..list.len()], into);
+    first_less_of(&rows, goal, slot + 1, &NOTHING[..list.len()], into);
     take_away(gone, into);
 }

@@ -9,7 +9,8 @@ use Rattle.ltm_scenario.specs.Data.{ScenarioData}
 use Rattle.ltm_casefile.specs.declared.faults.CaseFault.{CaseFault}
 use Rattle.ltm_casefile.specs.declared.faults.CaseFault.TheVariants as fault
 use Rattle.ltm_casefile.specs.Faults.{Agrees, HasRisen, WasAsked}
-use Rattle.ltm_casefile.specs.Case.{case_of, asks_for}
+use Rattle.ltm_casefile.specs.Case.{asks_for}
+use Rattle.ltm_casefile.specs.KeptCase.{kept_case_of}
 use Rattle.ltm_check_command.specs.declared.refusal.Refusal.TheVariants as checked
 use Rattle.ltm_core.specs.Log.{version_now}
 use Rattle.ltm_core.specs.Cores.{CoreData}
@@ -24,7 +25,7 @@ use Rattle.ltm_command.specs.declared.status.Status.{Status}
 use Rattle.ltm_command.specs.declared.status.Status.TheVariants as ending
 use Rattle.ltm_command.specs.declared.words.Command.TheVariants as command
 use Rattle.ltm_command.specs.declared.words.Report.TheVariants as report
-use Rattle.ltm_command.specs.Answers.{Describes}
+use Rattle.ltm_command.specs.Answers.{DescribesKept}
 use Rattle.ltm_command.specs.Program.{IsWhole, IsTold, IsMissing, FetchesCase, case_status, refusal_of}
 use Rattle.ltm_command.specs.Run.{Outside, outside, LeavesInput, WritesFront, IsRun}
 use Rattle.ltm_command.proofs.MissingFile.{failed}
@@ -63,14 +64,14 @@ began_beside zero d told left end old new none beside alone =
 began_beside (suc n) d told left end old new none (output, t, so, wrote) alone = (output, (t, session_began AnswersBeside d told left end output t none so), wrote)
 
 -- ---- a case that is read
-front_in : (Unread : Type 0) (Of : ScenarioData → SessionEnd → List ℕ → Type 0) (s : ScenarioData) (told : Option Files) (status : Status) (old new : Option (List ℕ)) → Describes told (Ok s)
+front_in : (Unread : Type 0) (Of : ScenarioData → SessionEnd → List ℕ → Type 0) (s : ScenarioData) (told : Option Files) (status : Status) (old new : Option (List ℕ)) → DescribesKept told (Ok s)
     → WritesFront (EndsUnder (Of s)) status old new → WritesFront (IsCaseUnder Unread Of told) status old new
 front_in Unread Of s told status old new describes (inl same) = inl same
 front_in Unread Of s told status old new describes (inr (due, t, given, under, front)) = inr (due, t, given, inr (s, describes, under), front)
 
 -- a run of it, after its files were fetched
 pub run_case : (Unread : Type 0) (Of : ScenarioData → SessionEnd → List ℕ → Type 0) (s : ScenarioData) (status : Status) (told : Option Files) (before : Doc → ℕ) (m a : Outside)
-    → m.told ≡ told → ((d : Doc) → (FetchesCase told d → ⊥) → m.faults d ≡ before d) → Describes told (Ok s) → IsRun (EndsUnder (Of s)) (λ d. ⊥) (Unit {0}) status m a
+    → m.told ≡ told → ((d : Doc) → (FetchesCase told d → ⊥) → m.faults d ≡ before d) → DescribesKept told (Ok s) → IsRun (EndsUnder (Of s)) (λ d. ⊥) (Unit {0}) status m a
     → IsRun (IsCaseUnder Unread Of told) (FetchesCase told) (Unit {0}) status (outside told before m.left m.read_faults m.written m.write_faults) a
 run_case Unread Of s status told before m a keeps stays describes run = record {
   touches = (run.touches.0 ∙ keeps, λ d out. run.touches.1 d (λ none. none) ∙ stays d out);
@@ -81,10 +82,11 @@ run_case Unread Of s status told before m a keeps stays describes run = record {
 }
 
 -- ---- a case that is refused
-told_describes : (told : Option Files) (f : CaseFault) → IsTold (checked.Case f) → IfSome told (λ files. Agrees (case_of files) f) → Describes told (Err f)
+told_describes : (told : Option Files) (f : CaseFault) → IsTold (checked.Case f) → IfSome told (λ files. Agrees (kept_case_of files) f) → DescribesKept told (Err f)
 told_describes told (fault.Folder x) is agrees = absurd is
 told_describes told (fault.TooLong x) is agrees = agrees
 told_describes told (fault.Bad x row cause) is agrees = agrees
+told_describes told fault.NoHistory is agrees = agrees
 told_describes told fault.NoMemory is agrees = absurd is
 
 fetch_failed : (told : Option Files) (before now : Doc → ℕ) (f : CaseFault) → IfSome told (λ files. WasAsked (asks_for files) f) → HasRisen before now f → IsMissing (checked.Case f)
@@ -92,11 +94,12 @@ fetch_failed : (told : Option Files) (before now : Doc → ℕ) (f : CaseFault) 
 fetch_failed told before now (fault.Folder x) asked rose is = missed (command.Report report.Load) told before now (failed report.Load told before now x asked rose)
 fetch_failed told before now (fault.TooLong x) asked rose is = absurd is
 fetch_failed told before now (fault.Bad x row cause) asked rose is = absurd is
+fetch_failed told before now fault.NoHistory asked rose is = absurd is
 fetch_failed told before now fault.NoMemory asked rose is = absurd is
 
 pub run_unread : (Of : ScenarioData → SessionEnd → List ℕ → Type 0) (f : CaseFault) (status : Status) (b a : Outside)
     → (a.told ≡ b.told) × ((d : Doc) → (FetchesCase b.told d → ⊥) → a.faults d ≡ b.faults d) → LeavesInput b a
-    → IfSome b.told (λ files. Agrees (case_of files) f) → IfSome b.told (λ files. WasAsked (asks_for files) f) → HasRisen b.faults a.faults f
+    → IfSome b.told (λ files. Agrees (kept_case_of files) f) → IfSome b.told (λ files. WasAsked (asks_for files) f) → HasRisen b.faults a.faults f
     → (IsWhole status → IsTold (checked.Case f) × (status ≡ case_status f) × (a.written ≡ appended (refusal_of f) b.written))
     → (a.written ≡ b.written) ⊎ (IsTold (checked.Case f) × AppendsFront b.written a.written (refusal_of f))
     → (status ≡ ending.FolderFault → IsMissing (checked.Case f) × (a.written ≡ b.written))

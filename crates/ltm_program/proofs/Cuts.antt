@@ -11,7 +11,7 @@ use Rattle.ltm_session.specs.Answers.{AnswersAlone}
 use Rattle.ltm_session.specs.Session.{Answering, IsSession}
 use Rattle.ltm_session_viewers.specs.View.{IsView, ClosesView}
 use Rattle.ltm_command.specs.declared.status.Status.TheVariants as ending
-use Rattle.ltm_command.specs.Answers.{Describes}
+use Rattle.ltm_command.specs.Answers.{DescribesKept}
 use Rattle.ltm_command.specs.Run.{Outside}
 use Rattle.ltm_command.proofs.Told.{never_read}
 use Rattle.ltm_program.specs.Sessions.{IsServed, IsServedUnder, ServesWhatCame, status_of_end, closing_of}
@@ -36,7 +36,7 @@ what_came answers s None left old new e output m is so wrote = tt
 what_came answers s (Some script) left old new e output m is so wrote = (so.answered, output, m, so.came is, so.runs, wrote)
 
 pub session_came : (answers : Answering) (b a : Outside) (t : List ℕ) → IsServedUnder (IsServed answers) b a ending.ReadFault t → Wrote t b a
-    → (s : ScenarioData) × Describes b.told (Ok s) × ServesWhatCame answers s b.left a.left b.written a.written
+    → (s : ScenarioData) × DescribesKept b.told (Ok s) × ServesWhatCame answers s b.left a.left b.written a.written
 session_came answers b a t (inl (f, describes, is, at, unread)) wrote = absurd (never_read (refusal.Case f) is)
 session_came answers b a t (inr (s, describes, (e, output, (m, so), is, at))) wrote =
     (s, describes, what_came answers s b.left a.left b.written a.written e output m (cut e is) so (wrote ∙ ap (λ x. appended x b.written) (unclosed e output t (cut e is) at)))
@@ -60,7 +60,7 @@ viewed n s script left old new e output m is so wrote =
     what_came AnswersAlone s script left old new so.session_end so.answers m session so.session (wrote ∙ ap (λ x. appended x old) answered)
 
 pub view_came : (n : ℕ) (b a : Outside) (t : List ℕ) → IsServedUnder (IsViewed n) b a ending.ReadFault t → Wrote t b a
-    → (s : ScenarioData) × Describes b.told (Ok s) × ServesWhatCame AnswersAlone s b.left a.left b.written a.written
+    → (s : ScenarioData) × DescribesKept b.told (Ok s) × ServesWhatCame AnswersAlone s b.left a.left b.written a.written
 view_came n b a t (inl (f, describes, is, at, unread)) wrote = absurd (never_read (refusal.Case f) is)
 view_came n b a t (inr (s, describes, (e, output, (m, so), is, at))) wrote =
     (s, describes, viewed n s b.left a.left b.written a.written e output m (cut e is) so (wrote ∙ ap (λ x. appended x b.written) (unclosed e output t (cut e is) at)))

@@ -31,12 +31,14 @@ told_case : (f : CaseFault) → texts.IsTold (checked.Case f) → IsTold (refusa
 told_case (fault.Folder x) is = absurd is
 told_case (fault.TooLong x) is = tt
 told_case (fault.Bad x row cause) is = tt
+told_case fault.NoHistory is = tt
 told_case fault.NoMemory is = absurd is
 
 missing_case : (f : CaseFault) → texts.IsMissing (checked.Case f) → IsUngiven (refusal.Case f)
 missing_case (fault.Folder x) is = tt
 missing_case (fault.TooLong x) is = absurd is
 missing_case (fault.Bad x row cause) is = absurd is
+missing_case fault.NoHistory is = absurd is
 missing_case fault.NoMemory is = absurd is
 
 module _ (r : EditorsRefusal) (f : CaseFault) (is : r ≡ refusal.Case f) where
@@ -75,6 +77,7 @@ pub never_usage : (e : EditorsRefusal) → editing_status (Err e) ≡ ending.Usa
 never_usage (refusal.Case (fault.Folder x)) is = cc
 never_usage (refusal.Case (fault.TooLong x)) is = cc
 never_usage (refusal.Case (fault.Bad x row cause)) is = cc
+never_usage (refusal.Case fault.NoHistory) is = cc
 never_usage (refusal.Case fault.NoMemory) is = cc
 never_usage (refusal.Edits (edits.Missing editor)) is = cc
 never_usage (refusal.Edits (edits.TooLong editor)) is = cc
@@ -86,6 +89,7 @@ pub never_read : (e : EditorsRefusal) → editing_status (Err e) ≡ ending.Read
 never_read (refusal.Case (fault.Folder x)) is = cc
 never_read (refusal.Case (fault.TooLong x)) is = cc
 never_read (refusal.Case (fault.Bad x row cause)) is = cc
+never_read (refusal.Case fault.NoHistory) is = cc
 never_read (refusal.Case fault.NoMemory) is = cc
 never_read (refusal.Edits (edits.Missing editor)) is = cc
 never_read (refusal.Edits (edits.TooLong editor)) is = cc
@@ -97,6 +101,7 @@ pub never_ok : (e : EditorsRefusal) → editing_status (Err e) ≡ ending.Ok →
 never_ok (refusal.Case (fault.Folder x)) is = cc
 never_ok (refusal.Case (fault.TooLong x)) is = cc
 never_ok (refusal.Case (fault.Bad x row cause)) is = cc
+never_ok (refusal.Case fault.NoHistory) is = cc
 never_ok (refusal.Case fault.NoMemory) is = cc
 never_ok (refusal.Edits (edits.Missing editor)) is = cc
 never_ok (refusal.Edits (edits.TooLong editor)) is = cc
@@ -109,6 +114,7 @@ pub told_given : (e : EditorsRefusal) → IsTold e → editing_status (Err e) �
 told_given (refusal.Case (fault.Folder x)) told is = absurd told
 told_given (refusal.Case (fault.TooLong x)) told is = cc
 told_given (refusal.Case (fault.Bad x row cause)) told is = cc
+told_given (refusal.Case fault.NoHistory) told is = cc
 told_given (refusal.Case fault.NoMemory) told is = cc
 told_given (refusal.Edits (edits.Missing editor)) told is = absurd told
 told_given (refusal.Edits (edits.TooLong editor)) told is = cc
@@ -131,6 +137,7 @@ pub missing_is : (e : EditorsRefusal) → IsUngiven e → ending.FolderFault ≡
 missing_is (refusal.Case (fault.Folder x)) is = refl
 missing_is (refusal.Case (fault.TooLong x)) is = absurd is
 missing_is (refusal.Case (fault.Bad x row cause)) is = absurd is
+missing_is (refusal.Case fault.NoHistory) is = absurd is
 missing_is (refusal.Case fault.NoMemory) is = absurd is
 missing_is (refusal.Edits (edits.Missing editor)) is = refl
 missing_is (refusal.Edits (edits.TooLong editor)) is = absurd is
@@ -164,6 +171,7 @@ edited told editors text (Ok t, says, ok, is) = text_in told editors text t (sym
 edited told editors text (Err (refusal.Case (fault.Folder x)), says, ok, is) = cc
 edited told editors text (Err (refusal.Case (fault.TooLong x)), says, ok, is) = cc
 edited told editors text (Err (refusal.Case (fault.Bad x row cause)), says, ok, is) = cc
+edited told editors text (Err (refusal.Case fault.NoHistory), says, ok, is) = cc
 edited told editors text (Err (refusal.Case fault.NoMemory), says, ok, is) = cc
 edited told editors text (Err (refusal.Edits (edits.Missing editor)), says, ok, is) = cc
 edited told editors text (Err (refusal.Edits (edits.TooLong editor)), says, ok, is) = cc
@@ -177,6 +185,7 @@ bad_line_told told editors text (Ok t, says, ok, is) = cc
 bad_line_told told editors text (Err (refusal.Case (fault.Folder x)), says, ok, is) = cc
 bad_line_told told editors text (Err (refusal.Case (fault.TooLong x)), says, ok, is) = cc
 bad_line_told told editors text (Err (refusal.Case (fault.Bad x row cause)), says, ok, is) = cc
+bad_line_told told editors text (Err (refusal.Case fault.NoHistory), says, ok, is) = cc
 bad_line_told told editors text (Err (refusal.Case fault.NoMemory), says, ok, is) = cc
 bad_line_told told editors text (Err (refusal.Edits (edits.Missing editor)), says, ok, is) = cc
 bad_line_told told editors text (Err (refusal.Edits (edits.TooLong editor)), says, ok, is) = cc

@@ -5,7 +5,7 @@ use Rattle.ltm_io.specs.Folder.{Files}
 use Rattle.ltm_io.specs.Sink.{appended}
 use Rattle.ltm_io.specs.Script.{lines_of}
 use Rattle.ltm_scenario.specs.Data.{ScenarioData}
-use Rattle.ltm_casefile.specs.Case.{case_of}
+use Rattle.ltm_casefile.specs.KeptCase.{kept_case_of}
 use Rattle.ltm_session.specs.declared.ends.SessionEnd.{SessionEnd}
 use Rattle.ltm_session.specs.Session.{IsSessionOutput}
 use Rattle.ltm_session.specs.Promise.{KeepsPromise, KeepsPromiseSoFar}
@@ -48,7 +48,7 @@ take_over (suc k) [] ys = (suc k, refl)
 take_over (suc k) (x ∷ xs) ys = let h = take_over k xs ys in (h.0, ap (λ l. x ∷ l) h.1)
 
 fronts_at : FrontsKeepThePromise → (Unread : Type 0) (n : ℕ) (status : Status) (told : Option Files) (script left old new : Option (List ℕ)) → WritesFront (IsCaseUnder Unread (IsServed (rule_of n) script left) told) status old new
-    → IfSome told (λ files. (s : ScenarioData) → case_of files ≡ Ok s
+    → IfSome told (λ files. (s : ScenarioData) → kept_case_of files ≡ Ok s
     → (new ≡ old) ⊎ ((t : List ℕ) × (end : SessionEnd) × (m : ℕ) × KeepsPromiseSoFar s script t × (new ≡ appended (t ++ take m (closing_of end)) old)))
 fronts_at kept Unread n status None script left old new front = tt
 fronts_at kept Unread n status (Some files) script left old new (inl (same, written)) = λ s is. inl same

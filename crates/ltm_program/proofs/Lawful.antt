@@ -10,7 +10,8 @@ use Rattle.ltm_scenario.specs.Data.{ScenarioData}
 use Rattle.ltm_casefile.specs.declared.faults.File.{File}
 use Rattle.ltm_casefile.specs.declared.faults.CaseFault.{CaseFault}
 use Rattle.ltm_casefile.specs.declared.faults.CaseFault.TheVariants as fault
-use Rattle.ltm_casefile.specs.Case.{case_of, is_case_file, asks_for}
+use Rattle.ltm_casefile.specs.Case.{is_case_file, asks_for}
+use Rattle.ltm_casefile.specs.KeptCase.{kept_case_of}
 use Rattle.ltm_check_command.specs.declared.refusal.Refusal.TheVariants as refusal
 use Rattle.ltm_session.specs.declared.ends.SessionEnd.{SessionEnd}
 use Rattle.ltm_session.specs.declared.ends.SessionEnd.TheVariants as end
@@ -29,7 +30,7 @@ use Rattle.ltm_command.specs.declared.words.Command.{Command}
 use Rattle.ltm_command.specs.declared.words.Command.TheVariants as command
 use Rattle.ltm_command.specs.declared.words.Report.TheVariants as report
 use Rattle.ltm_command.specs.RouteLines.TheVariants as lines
-use Rattle.ltm_command.specs.Answers.{Answer, Answers, Describes, HasText, may_fetch, fetches}
+use Rattle.ltm_command.specs.Answers.{Answer, Answers, DescribesKept, HasText, may_fetch, fetches}
 use Rattle.ltm_command.specs.Program.{IsAnswerUnder, IsWhole, IsCalm, Fetches, status_of, case_status, words_of}
 use Rattle.ltm_command.specs.Words.{usage_line}
 use Rattle.ltm_command.specs.Run.{Outside, LeavesInput, WritesFront, IsRun}
@@ -118,7 +119,7 @@ session_serves answers s b a e output t m is so at wrote read =
     ended_whole s b.left a.left b.written a.written end.Ended output m refl ended_so now (read_to_end b.left a.left end.Ended read)
 
 serves : (answers : Answering) (b a : Outside) (t : List ℕ) → IsServedUnder (IsServed answers) b a ending.Ok t → Wrote t b a → IfSome b.left (λ x. a.left ≡ Some [])
-    → (s : ScenarioData) × Describes b.told (Ok s) × ServesWhole (IsOutputBy answers) s b.left a.left b.written a.written
+    → (s : ScenarioData) × DescribesKept b.told (Ok s) × ServesWhole (IsOutputBy answers) s b.left a.left b.written a.written
 serves answers b a t (inl (f, describes, is, at, unread)) wrote read = absurd (texts.never_ok (refusal.Case f) is)
 serves answers b a t (inr (s, describes, (e, output, (m, so), is, at))) wrote read = (s, describes, session_serves answers s b a e output t m (ended e is) so at wrote read)
 
@@ -132,7 +133,7 @@ by_rule zero s script left old new law served = serves_alone s script left old n
 by_rule (suc n) s script left old new law served = served
 
 views : (n : ℕ) (b a : Outside) (t : List ℕ) → IsServedUnder (IsViewed n) b a ending.Ok t → Wrote t b a → IfSome b.left (λ x. a.left ≡ Some [])
-    → (s : ScenarioData) × Describes b.told (Ok s) × ServesWhole (IsViewOutput n) s b.left a.left b.written a.written
+    → (s : ScenarioData) × DescribesKept b.told (Ok s) × ServesWhole (IsViewOutput n) s b.left a.left b.written a.written
 views n b a t (inl (f, describes, is, at, unread)) wrote read = absurd (texts.never_ok (refusal.Case f) is)
 views n b a t (inr (s, describes, (e, output, (m, so), is, at))) wrote read =
     let well = ended e is in
@@ -151,12 +152,12 @@ view_end n m end.TooManyCommands e lines closes write memory = closes.0
 view_end n m end.NoMemory e lines closes write memory = closes.0
 
 -- ---- with no fault of the outside
-case_ends : (told : Option Files) (files : Files) (script : List ℕ) (f : CaseFault) (status : Status) → Describes told (Err f) → told ≡ Some files → status ≡ case_status f → status ≡ session_status (case_of files) script
-case_ends told files script f status describes is well = well ∙ ap (λ said. session_status said script) (sym (subst (λ o. Describes o (Err f)) is describes))
+case_ends : (told : Option Files) (files : Files) (script : List ℕ) (f : CaseFault) (status : Status) → DescribesKept told (Err f) → told ≡ Some files → status ≡ case_status f → status ≡ session_status (kept_case_of files) script
+case_ends told files script f status describes is well = well ∙ ap (λ said. session_status said script) (sym (subst (λ o. DescribesKept o (Err f)) is describes))
 
-script_ends : (told : Option Files) (files : Files) (script : List ℕ) (s : ScenarioData) (status : Status) → Describes told (Ok s) → told ≡ Some files
-    → (status ≡ status_of_end (end_of script)) ⊎ (status ≡ ending.NoMemory) → (status ≡ session_status (case_of files) script) ⊎ (status ≡ ending.NoMemory)
-script_ends told files script s status describes is (inl well) = inl (well ∙ ap (λ said. session_status said script) (sym (subst (λ o. Describes o (Ok s)) is describes)))
+script_ends : (told : Option Files) (files : Files) (script : List ℕ) (s : ScenarioData) (status : Status) → DescribesKept told (Ok s) → told ≡ Some files
+    → (status ≡ status_of_end (end_of script)) ⊎ (status ≡ ending.NoMemory) → (status ≡ session_status (kept_case_of files) script) ⊎ (status ≡ ending.NoMemory)
+script_ends told files script s status describes is (inl well) = inl (well ∙ ap (λ said. session_status said script) (sym (subst (λ o. DescribesKept o (Ok s)) is describes)))
 script_ends told files script s status describes is (inr none) = inr none
 
 not_end : (e x : SessionEnd) (status : Status) → status ≡ status_of_end e → (status ≡ status_of_end x → ⊥) → e ≡ x → ⊥
@@ -164,14 +165,14 @@ not_end e x status is other same = other (is ∙ ap status_of_end same)
 
 module _ (told : Option Files) (left after : Option (List ℕ)) (files : Files) (script : List ℕ) (status : Status) (t : List ℕ) (told_is : told ≡ Some files) (left_is : left ≡ Some script) (whole : IsWhole status)
     (heard : status ≡ ending.ReadFault → ⊥) (Unread : Type 0) where
-  session_ends : (answers : Answering) → IsCaseUnder Unread (IsServed answers left after) told status t → (status ≡ session_status (case_of files) script) ⊎ (status ≡ ending.NoMemory)
+  session_ends : (answers : Answering) → IsCaseUnder Unread (IsServed answers left after) told status t → (status ≡ session_status (kept_case_of files) script) ⊎ (status ≡ ending.NoMemory)
   session_ends answers (inl (f, describes, is, at, unread)) = inl (case_ends told files script f status describes told_is is)
   session_ends answers (inr (s, describes, (e, output, (m, so), is, at))) =
       script_ends told files script s status describes told_is
       (ends_well e script status (ends_as_told answers (opening_state s 0) left after output e m so script left_is) (not_end e end.ReadFault status is heard)
       (not_end e end.WriteFault status is (no_write status whole)) (no_write status whole) (inl is))
 
-  view_ends : (n : ℕ) → IsCaseUnder Unread (IsViewed n left after) told status t → (status ≡ session_status (case_of files) script) ⊎ (status ≡ ending.NoMemory)
+  view_ends : (n : ℕ) → IsCaseUnder Unread (IsViewed n left after) told status t → (status ≡ session_status (kept_case_of files) script) ⊎ (status ≡ ending.NoMemory)
   view_ends n (inl (f, describes, is, at, unread)) = inl (case_ends told files script f status describes told_is is)
   view_ends n (inr (s, describes, (e, output, (m, so), is, at))) =
       let same : e ≡ so.session_end = view_end n m so.session_end e so.lines so.closes (not_end e end.WriteFault status is (no_write status whole)) (not_end e end.NoMemory status is (no_memory status whole)) in
@@ -181,7 +182,7 @@ module _ (told : Option Files) (left after : Option (List ℕ)) (files : Files) 
       (not_end e end.WriteFault status is (no_write status whole)) (no_write status whole) (inl is))
 
 session_completes : (b a : Outside) (status : Status) (files : Files) (script : List ℕ) (n : ℕ) → Ran (Some (command.Session n)) status b a → b.told ≡ Some files → b.left ≡ Some script
-    → IsCalm (command.Report report.Load) files b.faults a.faults → HeardAll b a → IsQuiet b a → (status ≡ session_status (case_of files) script) ⊎ (status ≡ ending.NoMemory)
+    → IsCalm (command.Report report.Load) files b.faults a.faults → HeardAll b a → IsQuiet b a → (status ≡ session_status (kept_case_of files) script) ⊎ (status ≡ ending.NoMemory)
 session_completes b a status files script n r told left calm heard quiet =
     elim (sorted status (λ is. texts.failed_in_calm (command.Report report.Load) b.told files b.faults a.faults told calm (r.faults.0 is).0) (λ is. quiet (r.faults.2 is))) [
       | inl whole ↦ let h = r.whole whole in session_ends b.told b.left a.left files script status h.0 told left whole (λ is. heard (r.faults.1 is).1) (LeavesInput b a) (rule_of n) h.1
@@ -189,7 +190,7 @@ session_completes b a status files script n r told left calm heard quiet =
     ]
 
 view_completes : (b a : Outside) (status : Status) (files : Files) (script : List ℕ) (n : ℕ) → Ran (Some (command.View n)) status b a → b.told ≡ Some files → b.left ≡ Some script
-    → IsCalm (command.Report report.Load) files b.faults a.faults → HeardAll b a → IsQuiet b a → (status ≡ session_status (case_of files) script) ⊎ (status ≡ ending.NoMemory)
+    → IsCalm (command.Report report.Load) files b.faults a.faults → HeardAll b a → IsQuiet b a → (status ≡ session_status (kept_case_of files) script) ⊎ (status ≡ ending.NoMemory)
 view_completes b a status files script n r told left calm heard quiet =
     elim (sorted status (λ is. texts.failed_in_calm (command.Report report.Load) b.told files b.faults a.faults told calm (r.faults.0 is).0) (λ is. quiet (r.faults.2 is))) [
       | inl whole ↦ let h = r.whole whole in view_ends b.told b.left a.left files script status h.0 told left whole (λ is. heard (r.faults.1 is).1) (LeavesInput b a) n h.1
@@ -197,20 +198,20 @@ view_completes b a status files script n r told left calm heard quiet =
     ]
 
 -- ---- a case whose file is missing
-case_lacking : (Unread : Type 0) (Of : ScenarioData → SessionEnd → List ℕ → Type 0) (told : Option Files) (files : Files) (f : File) → told ≡ Some files → case_of files ≡ Err (fault.Folder f)
+case_lacking : (Unread : Type 0) (Of : ScenarioData → SessionEnd → List ℕ → Type 0) (told : Option Files) (files : Files) (f : File) → told ≡ Some files → kept_case_of files ≡ Err (fault.Folder f)
     → (due : Status) (u : List ℕ) → IsCaseUnder Unread Of told due u → due ≡ ending.FolderFault
 case_lacking Unread Of told files f is missing due u (inl (g, describes, under, at, unread)) =
-    let both : Err g ≡ Err (fault.Folder f) = sym (subst (λ o. Describes o (Err g)) is describes) ∙ missing in
+    let both : Err g ≡ Err (fault.Folder f) = sym (subst (λ o. DescribesKept o (Err g)) is describes) ∙ missing in
     let same : g ≡ fault.Folder f = cc in under ∙ ap case_status same
 case_lacking Unread Of told files f is missing due u (inr (s, describes, under)) =
-    let wrong : Ok s ≡ Err (fault.Folder f) = sym (subst (λ o. Describes o (Ok s)) is describes) ∙ missing in absurd (cc)
+    let wrong : Ok s ≡ Err (fault.Folder f) = sym (subst (λ o. DescribesKept o (Ok s)) is describes) ∙ missing in absurd (cc)
 
 -- ---- a case that is refused
-case_unread : (Unread : Type 0) (Of : ScenarioData → SessionEnd → List ℕ → Type 0) (told : Option Files) (files : Files) (f : CaseFault) → told ≡ Some files → case_of files ≡ Err f
+case_unread : (Unread : Type 0) (Of : ScenarioData → SessionEnd → List ℕ → Type 0) (told : Option Files) (files : Files) (f : CaseFault) → told ≡ Some files → kept_case_of files ≡ Err f
     → (due : Status) (u : List ℕ) → IsCaseUnder Unread Of told due u → Unread
 case_unread Unread Of told files f is refused due u (inl (g, describes, under, at, unread)) = unread
 case_unread Unread Of told files f is refused due u (inr (s, describes, under)) =
-    let wrong : Ok s ≡ Err f = sym (subst (λ o. Describes o (Ok s)) is describes) ∙ refused in absurd (cc)
+    let wrong : Ok s ≡ Err f = sym (subst (λ o. DescribesKept o (Ok s)) is describes) ∙ refused in absurd (cc)
 
 pub sessions_say_holds : AloneIsASession → SessionsSay
 sessions_say_holds law = record {
@@ -278,6 +279,7 @@ refusals_say_holds = record {
   missing_unread = λ b a c r. r.reads.2 refl;
   asked_unread = λ b a status r. r.reads.0 (λ none. none);
   bad_case = λ b a c has r. let h = (text_run c ending.BadCase b a has r).whole tt in let l = texts.bad_told c b.told h.0 h.1 in (l.0, l.1, l.2, l.3, wrote_as b a h.0 _ h.2 l.4);
+  no_history = λ b a c has r. let h = (text_run c ending.NoHistory b a has r).whole tt in let l = texts.kept_told c b.told h.0 h.1 in (l.0, wrote_as b a h.0 _ h.2 l.1);
   too_long = λ b a c has r. let h = (text_run c ending.TooLong b a has r).whole tt in let l = texts.long_told c b.told h.0 h.1 in (l.0, l.1, l.2, wrote_as b a h.0 _ h.2 l.3);
   complete = λ b a status files c has r told calm quiet. completes c b a status files has r told calm quiet;
   missing = λ b a status files c e has r told is none. missing_told _ _ _ b a

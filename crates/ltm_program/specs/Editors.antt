@@ -5,7 +5,7 @@ use Rattle.ltm_io.specs.Folder.{Files}
 use Rattle.ltm_io.specs.Faults.{Rose}
 use Rattle.ltm_scenario.specs.declared.edit.Edit.{Edit}
 use Rattle.ltm_scenario.specs.Data.{ScenarioData}
-use Rattle.ltm_casefile.specs.Case.{case_of}
+use Rattle.ltm_casefile.specs.KeptCase.{kept_case_of}
 use Rattle.ltm_report.specs.Refusals.{too_many_line}
 use Rattle.ltm_session_editors.specs.declared.fault.EditsFault.{EditsFault}
 use Rattle.ltm_session_editors.specs.declared.fault.EditsFault.TheVariants as edits
@@ -50,7 +50,7 @@ IsEditingUnder editors told status text = (answer : Editing) × AnswersEditing t
 
 -- the files describe this case, and the lines of the files of edits are these batches
 abbrev pub HasScripts : Option Files → ℕ → ScenarioData → List (List (List Edit)) → Type 0
-HasScripts told editors s scripts = IfSome told (λ files. (case_of files ≡ Ok s) × (scripts_of files editors ≡ Ok scripts))
+HasScripts told editors s scripts = IfSome told (λ files. (kept_case_of files ≡ Ok s) × (scripts_of files editors ≡ Ok scripts))
 
 -- no count of faults rose of a file that so many editors may ask for
 abbrev pub IsCalmFor : ℕ → Files → (Doc → ℕ) → (Doc → ℕ) → Type 0

@@ -11,8 +11,9 @@ use Rattle.ltm_casefile.specs.declared.faults.File.{File}
 use Rattle.ltm_casefile.specs.declared.faults.CaseCause.{CaseCause}
 use Rattle.ltm_casefile.specs.declared.faults.CaseFault.{CaseFault}
 use Rattle.ltm_casefile.specs.declared.faults.CaseFault.TheVariants as fault
-use Rattle.ltm_casefile.specs.Case.{case_of, is_case_file, asks_for}
-use Rattle.ltm_report.specs.CaseFaults.{bad_case_line}
+use Rattle.ltm_casefile.specs.Case.{is_case_file, asks_for}
+use Rattle.ltm_casefile.specs.KeptCase.{kept_case_of}
+use Rattle.ltm_report.specs.CaseFaults.{bad_case_line, no_history_line}
 use Rattle.ltm_report.specs.Reports.{IsReport}
 use Rattle.ltm_report.specs.DelayReports.{IsDelayReport}
 use Rattle.ltm_report.specs.GapReports.{IsGapReport}
@@ -44,7 +45,7 @@ use Rattle.ltm_command.specs.declared.words.Command.TheVariants as command
 use Rattle.ltm_command.specs.declared.words.Report.TheVariants as report
 use Rattle.ltm_command.specs.RouteLines.TheVariants as lines
 use Rattle.ltm_command.specs.Words.{usage_line}
-use Rattle.ltm_command.specs.Answers.{Answer, Answers, Describes, HasText, may_fetch, fetches}
+use Rattle.ltm_command.specs.Answers.{Answer, Answers, Describes, DescribesKept, HasText, may_fetch, fetches}
 use Rattle.ltm_command.specs.Program.{IsMissing, IsLong, IsWhole, IsCalm, status_of, words_of}
 use Rattle.ltm_command.specs.Run.{Outside, LeavesInput}
 use Rattle.ltm_program.specs.Sessions.{ServesWhole, ServesWhatCame, session_status}
@@ -81,7 +82,7 @@ pub record TextsSay : Type 0 where
   pub totals : (b a : Outside) (every : ℕ) → Ran (Some (command.Report (report.Totals every))) ending.Ok b a
       → (s : ScenarioData) × (t : List ℕ) × Describes b.told (Ok s) × IsSampledReport every s t × Wrote t b a
   pub curves : (b a : Outside) → Ran (Some command.Curves) ending.Ok b a
-      → (s : ScenarioData) × (t : List ℕ) × Describes b.told (Ok s) × IsLoadingText s t × Wrote t b a
+      → (s : ScenarioData) × (t : List ℕ) × DescribesKept b.told (Ok s) × IsLoadingText s t × Wrote t b a
   -- a check says yes only where the curve file tells the loading of the case, and wherever it does
   pub check : (b a : Outside) → Ran (Some command.Check) ending.Ok b a
       → (s : ScenarioData) × (bytes : List ℕ) × HasCurves b.told s bytes × TellsLoading s (records_of bytes)
@@ -102,41 +103,41 @@ pub record TextsSay : Type 0 where
 pub record SessionsSay : Type 0 where
   -- one that ends well has written an output of the case that the files describe and the whole input, read to its end
   pub session : (b a : Outside) (n : ℕ) → Ran (Some (command.Session n)) ending.Ok b a
-      → (s : ScenarioData) × Describes b.told (Ok s) × ServesWhole IsSessionOutput s b.left a.left b.written a.written
+      → (s : ScenarioData) × DescribesKept b.told (Ok s) × ServesWhole IsSessionOutput s b.left a.left b.written a.written
   pub session_alone : (b a : Outside) → Ran (Some (command.Session 0)) ending.Ok b a
-      → (s : ScenarioData) × Describes b.told (Ok s) × ServesWhole IsOutputAlone s b.left a.left b.written a.written
+      → (s : ScenarioData) × DescribesKept b.told (Ok s) × ServesWhole IsOutputAlone s b.left a.left b.written a.written
   pub view : (b a : Outside) (n : ℕ) → Ran (Some (command.View n)) ending.Ok b a
-      → (s : ScenarioData) × Describes b.told (Ok s) × ServesWhole (IsViewOutput n) s b.left a.left b.written a.written
+      → (s : ScenarioData) × DescribesKept b.told (Ok s) × ServesWhole (IsViewOutput n) s b.left a.left b.written a.written
   -- one that a failed read ends has answered exactly the lines that had come whole
   pub session_cut : (b a : Outside) (n : ℕ) → Ran (Some (command.Session n)) ending.ReadFault b a
-      → (s : ScenarioData) × Describes b.told (Ok s) × ServesWhatCame (rule_of n) s b.left a.left b.written a.written
+      → (s : ScenarioData) × DescribesKept b.told (Ok s) × ServesWhatCame (rule_of n) s b.left a.left b.written a.written
   pub view_cut : (b a : Outside) (n : ℕ) → Ran (Some (command.View n)) ending.ReadFault b a
-      → (s : ScenarioData) × Describes b.told (Ok s) × ServesWhatCame AnswersAlone s b.left a.left b.written a.written
+      → (s : ScenarioData) × DescribesKept b.told (Ok s) × ServesWhatCame AnswersAlone s b.left a.left b.written a.written
   -- with no fault of the outside the status is that of the case and the script
   pub session_complete : (b a : Outside) (status : Status) (files : Files) (script : List ℕ) (n : ℕ)
       → Ran (Some (command.Session n)) status b a
       → b.told ≡ Some files → b.left ≡ Some script
       → IsCalm (command.Report report.Load) files b.faults a.faults → HeardAll b a → IsQuiet b a
-      → (status ≡ session_status (case_of files) script) ⊎ (status ≡ ending.NoMemory)
+      → (status ≡ session_status (kept_case_of files) script) ⊎ (status ≡ ending.NoMemory)
   pub view_complete : (b a : Outside) (status : Status) (files : Files) (script : List ℕ) (n : ℕ)
       → Ran (Some (command.View n)) status b a
       → b.told ≡ Some files → b.left ≡ Some script
       → IsCalm (command.Report report.Load) files b.faults a.faults → HeardAll b a → IsQuiet b a
-      → (status ≡ session_status (case_of files) script) ⊎ (status ≡ ending.NoMemory)
+      → (status ≡ session_status (kept_case_of files) script) ⊎ (status ≡ ending.NoMemory)
   -- a missing file is told
   pub session_missing : (b a : Outside) (status : Status) (files : Files) (f : File) (n : ℕ)
       → Ran (Some (command.Session n)) status b a
-      → b.told ≡ Some files → case_of files ≡ Err (fault.Folder f) → TellsMissing status
+      → b.told ≡ Some files → kept_case_of files ≡ Err (fault.Folder f) → TellsMissing status
   pub view_missing : (b a : Outside) (status : Status) (files : Files) (f : File) (n : ℕ)
       → Ran (Some (command.View n)) status b a
-      → b.told ≡ Some files → case_of files ≡ Err (fault.Folder f) → TellsMissing status
+      → b.told ≡ Some files → kept_case_of files ≡ Err (fault.Folder f) → TellsMissing status
   -- of a case that is refused the input stays as it was
   pub session_unread : (b a : Outside) (status : Status) (files : Files) (f : CaseFault) (n : ℕ)
       → Ran (Some (command.Session n)) status b a
-      → b.told ≡ Some files → case_of files ≡ Err f → IsWhole status → LeavesInput b a
+      → b.told ≡ Some files → kept_case_of files ≡ Err f → IsWhole status → LeavesInput b a
   pub view_unread : (b a : Outside) (status : Status) (files : Files) (f : CaseFault) (n : ℕ)
       → Ran (Some (command.View n)) status b a
-      → b.told ≡ Some files → case_of files ≡ Err f → IsWhole status → LeavesInput b a
+      → b.told ≡ Some files → kept_case_of files ≡ Err f → IsWhole status → LeavesInput b a
 
 -- ---- several editors
 pub record EditorsSay : Type 0 where
@@ -174,6 +175,8 @@ pub record RefusalsSay : Type 0 where
   pub bad_case : (b a : Outside) (c : Command)
       → HasText c → Ran (Some c) ending.BadCase b a → (f : File) × (row : ℕ) × (cause : CaseCause)
       × Answers c b.told (Err (refusal.Case (fault.Bad f row cause))) × Wrote (bad_case_line f row cause) b a
+  pub no_history : (b a : Outside) (c : Command) → HasText c → Ran (Some c) ending.NoHistory b a
+      → Answers c b.told (Err (refusal.Case fault.NoHistory)) × Wrote no_history_line b a
   pub too_long : (b a : Outside) (c : Command) → HasText c → Ran (Some c) ending.TooLong b a
       → (e : Refusal) × IsLong e × Answers c b.told (Err e) × Wrote (words_of e) b a
   -- with no fault of the outside the status is that of the answer to the files

@@ -11,7 +11,7 @@ use Rattle.ltm_session.specs.Analysts.{Analysts, opening_state}
 use Rattle.ltm_session.specs.Session.{Answering, AnswersLines, CameWhole, IsSession, end_of}
 use Rattle.ltm_command.specs.declared.status.Status.{Status}
 use Rattle.ltm_command.specs.declared.status.Status.TheVariants as ending
-use Rattle.ltm_command.specs.Answers.{Describes}
+use Rattle.ltm_command.specs.Answers.{DescribesKept}
 use Rattle.ltm_command.specs.Program.{case_status, refusal_of}
 use Rattle.ltm_command.specs.Run.{Outside, LeavesInput}
 
@@ -42,8 +42,8 @@ EndsUnder IsOutput status text = (end : SessionEnd) × (output : List ℕ) × Is
 -- of a case up to an end
 abbrev pub IsCaseUnder : Type 0 → (ScenarioData → SessionEnd → List ℕ → Type 0) → Option Files → Status → List ℕ → Type 0
 IsCaseUnder Unread IsOutput told status text =
-    ((fault : CaseFault) × Describes told (Err fault) × (status ≡ case_status fault) × (text ≡ refusal_of fault) × Unread)
-    ⊎ ((s : ScenarioData) × Describes told (Ok s) × EndsUnder (IsOutput s) status text)
+    ((fault : CaseFault) × DescribesKept told (Err fault) × (status ≡ case_status fault) × (text ≡ refusal_of fault) × Unread)
+    ⊎ ((s : ScenarioData) × DescribesKept told (Ok s) × EndsUnder (IsOutput s) status text)
 
 -- which outputs may be written: by the script, what is left of it, the scenario, and up to an end
 abbrev pub Outputs : Type 1

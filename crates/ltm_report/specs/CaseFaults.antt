@@ -30,6 +30,10 @@ bad_case_line file row cause = place_piece file row ++ codes " " ++ cause_words 
 unfoldable pub too_long_line : File → List ℕ
 too_long_line file = codes "too long " ++ file_word file ++ newline
 
+-- the case keeps no history, and the command needs it
+unfoldable pub no_history_line : List ℕ
+no_history_line = codes "no history" ++ newline
+
 -- the files were read, and are no case
 abbrev pub IsBad : CaseFault → Type 0
 IsBad (Bad file row cause) = Unit {0}

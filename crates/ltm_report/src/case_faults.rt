@@ -1,6 +1,6 @@
 //! The lines that refuse a case.
 ghost use Rattle.std.specs.Prelude.{◌≡◌, ◌++◌, OnOk, OnErr};
-ghost use Rattle.ltm_report.specs.CaseFaults.{file_word, place_piece, bad_case_line, too_long_line, case_fault_line, IsBad};
+ghost use Rattle.ltm_report.specs.CaseFaults.{file_word, place_piece, bad_case_line, too_long_line, no_history_line, case_fault_line, IsBad};
 
 use crate::causes::push_cause;
 use crate::pieces::push_newline;
@@ -70,6 +70,18 @@ pub fn too_long_text(alloc: Global, file: File, into: &mut Vec<u8>) -> Result<()
     let mut line = Vec::new(alloc);
     push_text(&mut line, b"too long ")?;
     push_text(&mut line, word_of_file(file))?;
+    push_newline(&mut line)?;
+    push_text(into, line.as_slice())
+}
+
+/// Appends that the case keeps no history, which the command needs, as `no history`.
+#[tactic(auto, unfolding(crate::specs::CaseFaults::no_history_line))]
+pub fn no_history_text(alloc: Global, into: &mut Vec<u8>) -> Result<(), NoMemory>
+    ensures ok { OnOk result (into.new.items ≡ into.old.items ++ no_history_line) }
+    ensures err { OnErr result (into.new.items ≡ into.old.items) }
+{
+    let mut line = Vec::new(alloc);
+    push_text(&mut line, b"no history")?;
     push_newline(&mut line)?;
     push_text(into, line.as_slice())
 }

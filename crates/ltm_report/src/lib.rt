@@ -35,7 +35,7 @@ mod totals;
 
 pub use all_delays::delays_text;
 pub use answers::{ANSWER_ROOM, accepted_text, settled_text};
-pub use case_faults::{case_fault_text, too_long_text};
+pub use case_faults::{case_fault_text, no_history_text, too_long_text};
 pub use command_faults::command_fault_text;
 pub use delay_report::delay_report_of;
 pub use delays::{delay_text, link_delay_text, queue_text};

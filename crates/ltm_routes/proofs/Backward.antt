@@ -76,7 +76,7 @@ fit_least r p to roads start fit taken =
     (λ link low. fits_back (potential_at p (r.tail link)) (r.free_time link) (potential_at p (r.head link)) (fit link low))
     (λ node time there is. let links = taken node time there is in let back = gone_back r to links.0 node links.1 in (back.0, back.1, back.2 ∙ ap Some links.2)))
 
-small_at : (o : Option Millis) → ((t : Millis) → o ≡ Some t → t.0 ≤ 140737488355328) → IsSmall o
+small_at : (o : Option Millis) → ((t : Millis) → o ≡ Some t → t.0 ≤ 562949953421312) → IsSmall o
 small_at None most = tt
 small_at (Some t) most = most t refl
 

@@ -51,4 +51,4 @@ AllLeadOn r to p = (node : ℕ) → node < r.nodes → node ≢ to → IsSome (p
 
 -- no potential is greater than 2^47 ms
 abbrev pub IsSmall : Option Millis → Type 0
-IsSmall potential = IfSome potential (λ time. time.0 ≤ 140737488355328)
+IsSmall potential = IfSome potential (λ time. time.0 ≤ 562949953421312)

@@ -61,6 +61,8 @@ says_of which roads all (fault.Folder f) are said = said
 says_of which roads all (fault.TooLong f) are said = absurd said
 says_of which roads all (fault.Bad f row cause) are said =
     (all, are, sym (ap (λ (r : Result ScenarioData CaseFault). r >>= λ _. readable which (routes_text which roads all)) said))
+says_of which roads all fault.NoHistory are said =
+    (all, are, sym (ap (λ (r : Result ScenarioData CaseFault). r >>= λ _. readable which (routes_text which roads all)) said))
 says_of which roads all fault.NoMemory are said = tt
 
 -- a fault over the roads that a folder tells
@@ -69,6 +71,7 @@ fault_told which told roads (Ok x) said is = tt
 fault_told which told roads (Err (fault.Folder f)) said is = tt
 fault_told which told roads (Err (fault.TooLong f)) said is = (Ok roads, said, is)
 fault_told which told roads (Err (fault.Bad f row cause)) said is = (Ok roads, said, is)
+fault_told which told roads (Err fault.NoHistory) said is = (Ok roads, said, is)
 fault_told which told roads (Err fault.NoMemory) said is = tt
 
 pub splits_are : (roads split : ScenarioData) (all : List RoutesData) (text : List ℕ) → IsScenario roads → NamesAreFound → LinksAtTheirPlaces → AreAllRoutes roads all → KeepsRest roads split

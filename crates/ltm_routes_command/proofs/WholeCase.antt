@@ -1,6 +1,6 @@
 -- The files of the roads with their splits are a case, where neither signals nor limits are asked for.
 use Rattle.std.proofs.Common.{ℕ, ◌≡◌, ◌≤◌, true, false, cond, List, length, Option, Some, None, Result, Ok, Err, IfSome, refl, ap, sym, arith, ◌∙◌}
-use Rattle.std.specs.Prelude.{nat_le}
+use Rattle.std.specs.Prelude.{nat_le, if◌then◌else◌}
 use Rattle.std.proofs.lemmas.Bool.Decides.{nat_tests}
 use Rattle.ltm_units.specs.Bounds.{longest_file}
 use Rattle.ltm_io.specs.declared.doc.Doc.TheVariants as doc
@@ -14,8 +14,8 @@ use Rattle.ltm_casefile.specs.declared.faults.File.TheVariants as file
 use Rattle.ltm_casefile.specs.declared.setup.Asked.{Asked}
 use Rattle.ltm_casefile.specs.declared.setup.Opened.{Opened}
 use Rattle.ltm_casefile.specs.declared.tables.Table.TheVariants as table
-use Rattle.ltm_casefile.specs.Setup.{setup_of}
-use Rattle.ltm_casefile.specs.Folder.{sized}
+use Rattle.ltm_casefile.specs.Setup.{setup_of, asks_for_many, longest_beside}
+use Rattle.ltm_casefile.specs.Folder.{sized, longest_large_file}
 use Rattle.ltm_casefile.specs.Tables.{with_file}
 use Rattle.ltm_casefile.specs.Case.{CaseTexts, texts_of, filled, whole, CaseParts, opened_of, limit_texts_of, parts_of, built, case_of, asked_by, asks_for}
 use Rattle.ltm_casefile.specs.Roads.{RoadTexts, road_texts_of, roads_filled, roads_in, unsplit_case_of}
@@ -36,8 +36,13 @@ roads_there texts roads is =
 abbrev case_texts : RoadTexts → List ℕ → CaseTexts
 case_texts texts splits = record { roads = texts; splits = splits }
 
-fits : (text : List ℕ) → length text ≤ longest_file → sized file.Splits (Some text) ≡ Ok text
-fits text short = let small : nat_le (length text) longest_file ≡ true = grind (arith, nat_tests) in ap (λ b. cond b (Ok text) (Err (fault.TooLong file.Splits))) small
+fits : (most : ℕ) (text : List ℕ) → length text ≤ most → sized most file.Splits (Some text) ≡ Ok text
+fits most text short = let small : nat_le (length text) most ≡ true = grind (arith, nat_tests) in ap (λ b. cond b (Ok text) (Err (fault.TooLong file.Splits))) small
+
+-- beside no setup is the most fewer bytes
+most_beside : (setup : List ℕ) → longest_file ≤ longest_beside setup
+unfolding longest_beside
+most_beside setup = elim (asks_for_many (setup_of (records_of setup))) as (λ b. longest_file ≤ (if b then longest_large_file else longest_file)) [ true ↦ omega arith | false ↦ omega arith ]
 
 -- the texts of the roads do not depend on the splits
 same_roads : (files : Files) (text : List ℕ) → road_texts_of (with_splits_file files text) ≡ road_texts_of files
@@ -46,7 +51,7 @@ same_roads files text = refl
 
 texts_are : (files : Files) (texts : RoadTexts) (text : List ℕ) → road_texts_of files ≡ Ok texts → length text ≤ longest_file → texts_of (with_splits_file files text) ≡ Ok (case_texts texts text)
 unfolding texts_of
-texts_are files texts text are short = rw (same_roads files text, are, fits text short) refl
+texts_are files texts text are short = rw (same_roads files text, are, fits (longest_beside texts.setup) text (omega (arith, short, most_beside texts.setup))) refl
 
 opened_is : (files : Files) (texts : CaseTexts) (opened : Opened) → texts_of files ≡ Ok texts → setup_of (records_of texts.roads.setup) ≡ Ok opened → opened_of files ≡ Ok opened
 opened_is files texts opened there is = ap (λ r. r >>= λ t. setup_of (records_of t.roads.setup)) there ∙ is

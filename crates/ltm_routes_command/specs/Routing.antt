@@ -51,6 +51,7 @@ abbrev pub SaysOfRoutes : RouteLines → ScenarioData → CaseFault → Type 0
 SaysOfRoutes lines s (fault.Folder f) = ⊥
 SaysOfRoutes lines s (fault.TooLong f) = RoutesAnswer lines (Ok s) (Err (fault.TooLong f))
 SaysOfRoutes lines s (fault.Bad f row cause) = RoutesAnswer lines (Ok s) (Err (fault.Bad f row cause))
+SaysOfRoutes lines s fault.NoHistory = RoutesAnswer lines (Ok s) (Err fault.NoHistory)
 SaysOfRoutes lines s fault.NoMemory = Unit {0}
 
 -- a fault that lies in the files is the answer; that a folder did not give a file, or memory was not found, does not lie
@@ -59,4 +60,5 @@ abbrev pub AnswersFault : RouteLines → Option Files → CaseFault → Type 0
 AnswersFault lines told (fault.Folder f) = Unit {0}
 AnswersFault lines told (fault.TooLong f) = AnswersRoutes lines told (Err (fault.TooLong f))
 AnswersFault lines told (fault.Bad f row cause) = AnswersRoutes lines told (Err (fault.Bad f row cause))
+AnswersFault lines told fault.NoHistory = AnswersRoutes lines told (Err fault.NoHistory)
 AnswersFault lines told fault.NoMemory = Unit {0}

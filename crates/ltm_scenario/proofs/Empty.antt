@@ -2,7 +2,7 @@
 use Rattle.std.proofs.Common.{◌≡◌, ℕ, ◌≤◌, [], Bool, true, false, cond, Ok, Err, Result, refl, arith}
 use Rattle.std.proofs.lemmas.Bool.Decides.{nat_tests}
 use Rattle.std.proofs.lemmas.List.Elements.{All-nil}
-use Rattle.ltm_units.specs.Bounds.{most_rows}
+use Rattle.ltm_units.specs.Bounds.{most_rows, most_links, most_destinations, most_kept_rows, most_kept_links, most_kept_destinations}
 use Rattle.ltm_units.proofs.Results.{both_ok}
 use Rattle.ltm_network.specs.IsNetwork.{NetworksStay}
 use Rattle.ltm_limits.proofs.Stays.{limits_whole}
@@ -12,7 +12,7 @@ use Rattle.ltm_demand.specs.Kept.{AreDemandRows}
 use Rattle.ltm_splits.specs.Weights.{AreWeights}
 use Rattle.ltm_scenario.specs.declared.setup.Setup.{Setup}
 use Rattle.ltm_scenario.specs.declared.setup.SetupFault.{SetupFault}
-use Rattle.ltm_scenario.specs.Setup.{IsSetup, setup_checked, limited, is_between}
+use Rattle.ltm_scenario.specs.Setup.{IsSetup, setup_checked, kept_or, limited, is_between}
 use Rattle.ltm_scenario.specs.Data.{empty_scenario}
 use Rattle.ltm_scenario.specs.IsScenario.{IsScenario, IsDemandOf, IsSplitOf}
 
@@ -25,6 +25,11 @@ between : (most n : ℕ) (fault : SetupFault) → limited most n fault ≡ Ok tt
 between most n fault is =
     let yes : is_between 1 most n ≡ true = chosen (is_between 1 most n) (Ok tt) fault is in
     (let a : 1 ≤ n = grind (arith, nat_tests) in a, let b : n ≤ most = grind (arith, nat_tests) in b)
+
+-- nor is one that is within the limits of a case with history, or of one without it
+within : (history : Bool) (kept most n : ℕ) (fault : SetupFault) → kept ≤ most → limited (kept_or history kept most) n fault ≡ Ok tt → (1 ≤ n) × (n ≤ most)
+within true kept most n fault few is = let b = between kept n fault is in (b.0, omega (arith, b.1, few))
+within false kept most n fault few is = between most n fault is
 
 pub is_setup : (setup : Setup) → setup_checked setup ≡ Ok tt → IsSetup setup
 is_setup setup is =
@@ -39,10 +44,10 @@ is_setup setup is =
     let slots = between _ _ _ b.0 in
     let capacity = between _ _ _ c.0 in
     let cells = between _ _ _ d.0 in
-    let demand_rows = between _ _ _ e.0 in
-    let split_rows = between _ _ _ f.0 in
-    let links = between _ _ _ g.0 in
-    let destinations = between _ _ _ g.1 in
+    let demand_rows = within setup.history most_kept_rows most_rows setup.most_demand_rows _ (omega arith) e.0 in
+    let split_rows = within setup.history most_kept_rows most_rows setup.most_split_rows _ (omega arith) f.0 in
+    let links = within setup.history most_kept_links most_links setup.most_links _ (omega arith) g.0 in
+    let destinations = within setup.history most_kept_destinations most_destinations setup.most_destinations _ (omega arith) g.1 in
     record {
       step_least = step.0;
       step_most = step.1;

@@ -14,7 +14,7 @@ use Rattle.ltm_splits.specs.Rows.{SplitRow, split_cmp, is_of, put_in}
 use Rattle.ltm_scenario.specs.declared.setup.Setup.{Setup}
 use Rattle.ltm_scenario.specs.Data.{ScenarioData}
 use Rattle.ltm_scenario.specs.Reads.{destination_node, has_split}
-use Rattle.ltm_scenario.specs.Cells.{cells, most_cells}
+use Rattle.ltm_scenario.specs.Cells.{cells, has_room}
 use Rattle.ltm_scenario.specs.Horizon.{with_slots}
 use Rattle.ltm_scenario.specs.Valid.{IsValid, is_small, has_start, leads_on, all_lead_on, is_demand_split, is_split_begun, is_split_led}
 use Rattle.ltm_scenario.specs.Edits.{is_open}
@@ -102,8 +102,8 @@ start_of_row starts n d (x ∷ xs) all has =
 -- what the cells rest on stays, and so do they
 pub still_small : (s next : ScenarioData) → next.setup ≡ s.setup → next.network ≡ s.network → next.destinations ≡ s.destinations → is_small s ≡ true → is_small next ≡ true
 still_small s next setup network destinations small =
-    ap (λ (z : Setup). nat_le (cells next) z.most_cells) setup
-    ∙ ap (λ n. nat_le n (most_cells s)) (cells_rest_on s.setup s.network s.destinations next setup network destinations ∙ sym (cells_rest_on s.setup s.network s.destinations s refl refl refl)) ∙ small
+    ap (λ (z : Setup). not z.history || nat_le (cells next) z.most_cells) setup
+    ∙ ap (has_room s) (cells_rest_on s.setup s.network s.destinations next setup network destinations ∙ sym (cells_rest_on s.setup s.network s.destinations s refl refl refl)) ∙ small
 
 -- ---- one more split row
 abbrev pub with_rows : ScenarioData → List SplitRow → ScenarioData

@@ -27,7 +27,7 @@ use Rattle.ltm_scenario.specs.Build.{with_demand, with_split, with_pair, with_li
 use Rattle.ltm_scenario.specs.Edits.{or_edit_cause, cause_of_demand, cause_of_split, cause_of_horizon, demand_row, limited_link, named_pair, split_key, split_row, rows_checked, entries_said, weights_at, is_open, is_out_link, diagram_edited, with_diagram}
 use Rattle.ltm_scenario.specs.declared.faults.HorizonFault.{HorizonFault}
 use Rattle.ltm_scenario.specs.declared.faults.HorizonFault.TheVariants.{BadSlots as HorizonSlots, CellsOver}
-use Rattle.ltm_scenario.specs.Cells.{cells_with, most_cells}
+use Rattle.ltm_scenario.specs.Cells.{cells_with, has_room}
 use Rattle.ltm_scenario.specs.Horizon.{with_slots, with_horizon, is_longer}
 use Rattle.ltm_scenario.specs.Makes.{IsNamed, IsRowSaid, IsLinkSaid, IsSplitSaid, IsHorizonSaid, Makes, EditsMake, demand, entry, split, splits, diagram, exit, horizon}
 use Rattle.ltm_scenario.proofs.Kept.{with_row_rows, with_split_row_rows}
@@ -160,11 +160,11 @@ chosen false r fault x is = cc
 horizon_said : (s next : ScenarioData) (slots : ℕ) → with_horizon s slots ≡ Ok next → IsHorizonSaid s slots × (with_slots s slots ≡ next)
 unfolding with_horizon
 horizon_said s next slots is =
-    let a = chosen (is_longer s slots) (if nat_le (cells_with s slots) (most_cells s) then Ok (with_slots s slots) else Err (CellsOver (cells_with s slots))) HorizonSlots next is in
-    let b = chosen (nat_le (cells_with s slots) (most_cells s)) (Ok (with_slots s slots)) (CellsOver (cells_with s slots)) next a.1 in
+    let a = chosen (is_longer s slots) (if has_room s (cells_with s slots) then Ok (with_slots s slots) else Err (CellsOver (cells_with s slots))) HorizonSlots next is in
+    let b = chosen (has_room s (cells_with s slots)) (Ok (with_slots s slots)) (CellsOver (cells_with s slots)) next a.1 in
     let same : with_slots s slots ≡ next = cc (b.1) in
     let longer = a.0 in
-    (record { longer = grind (longer, arith, nat_tests); within = grind (longer, arith, nat_tests); small = ap (λ n. nat_le n (most_cells s)) (longer_cells s slots) ∙ b.0 }, same)
+    (record { longer = grind (longer, arith, nat_tests); within = grind (longer, arith, nat_tests); small = ap (has_room s) (longer_cells s slots) ∙ b.0 }, same)
 
 -- ---- each kind
 pub makes : EditsMake

@@ -1,5 +1,5 @@
 -- How much a loading of the scenario keeps.
-use Rattle.std.specs.Prelude.{ℕ, ◌+◌, ◌*◌, ◌==◌, if◌then◌else◌, length, sum_by}
+use Rattle.std.specs.Prelude.{ℕ, ◌+◌, ◌*◌, ◌==◌, ◌||◌, Bool, not, nat_le, if◌then◌else◌, length, sum_by}
 use Rattle.std.specs.List.{range_with_len}
 use Rattle.ltm_network.specs.Network.{out_links, in_links}
 use Rattle.ltm_scenario.specs.Data.{ScenarioData}
@@ -36,6 +36,6 @@ cells_with s slots = cells_of slots (widths s) (length s.network.links) (length 
 unfoldable pub cells : ScenarioData → ℕ
 cells s = cells_with s s.setup.slots
 
--- the most cells that the case may have
-abbrev pub most_cells : ScenarioData → ℕ
-most_cells s = s.setup.most_cells
+-- the case may have so many cells: any number where the history of a loading is not kept
+abbrev pub has_room : ScenarioData → ℕ → Bool
+has_room s n = not s.setup.history || nat_le n s.setup.most_cells

@@ -1,11 +1,11 @@
 -- A longer horizon, and the way back.
-use Rattle.std.specs.Prelude.{ℕ, ◌≤◌, ◌&&◌, Bool, nat_le, nat_lt, Result, Ok, Err, if◌then◌else◌}
+use Rattle.std.specs.Prelude.{ℕ, ◌≤◌, ◌≡◌, ◌&&◌, Bool, true, nat_le, nat_lt, Result, Ok, Err, if◌then◌else◌}
 use Rattle.ltm_limits.specs.Limits.{limits_over, limits_within}
 use Rattle.ltm_scenario.specs.declared.setup.Setup.{Setup}
 use Rattle.ltm_scenario.specs.declared.faults.HorizonFault.{HorizonFault}
 use Rattle.ltm_scenario.specs.declared.faults.HorizonFault.TheVariants.{BadSlots, CellsOver}
 use Rattle.ltm_scenario.specs.Data.{ScenarioData}
-use Rattle.ltm_scenario.specs.Cells.{cells_with, most_cells}
+use Rattle.ltm_scenario.specs.Cells.{cells_with, has_room}
 use Rattle.ltm_units.specs.Bounds.{most_slots}
 
 -- the setup with another horizon
@@ -28,11 +28,11 @@ is_longer s slots = nat_lt s.setup.slots slots && nat_le slots most_slots
 unfoldable pub with_horizon : ScenarioData → ℕ → Result ScenarioData HorizonFault
 with_horizon s slots =
     if is_longer s slots
-    then (if nat_le (cells_with s slots) (most_cells s) then Ok (with_slots s slots) else Err (CellsOver (cells_with s slots)))
+    then (if has_room s (cells_with s slots) then Ok (with_slots s slots) else Err (CellsOver (cells_with s slots)))
     else Err BadSlots
 
--- a horizon that is no shorter than the scenario's, of at most 10,000 slots, and over which its cells are few
+-- a horizon that is no shorter than the scenario's, of at most 10,000 slots, and over which its cells are few, where its history is kept
 pub record MayReach (s : ScenarioData) (slots : ℕ) : Type 0 where
   pub longer : s.setup.slots ≤ slots
   pub most : slots ≤ most_slots
-  pub small : cells_with s slots ≤ most_cells s
+  pub small : has_room s (cells_with s slots) ≡ true

@@ -1,8 +1,8 @@
 -- The setup of a case.
-use Rattle.std.specs.Prelude.{ℕ, ◌≤◌, ◌&&◌, Bool, false, nat_le, Result, Ok, Err, if◌then◌else◌}
+use Rattle.std.specs.Prelude.{ℕ, ◌≤◌, ◌&&◌, Bool, true, false, nat_le, Result, Ok, Err, if◌then◌else◌}
 use Rattle.ltm_units.specs.declared.quantities.Millis.{Millis}
 use Rattle.ltm_units.specs.declared.quantities.Units.{Units}
-use Rattle.ltm_units.specs.Bounds.{longest_step, most_in_slot, most_slots, most_rows, most_links, most_destinations, default_links, default_destinations, default_demand_rows, default_split_rows}
+use Rattle.ltm_units.specs.Bounds.{longest_step, most_in_slot, most_slots, most_rows, most_links, most_destinations, most_kept_rows, most_kept_links, most_kept_destinations, default_links, default_destinations, default_demand_rows, default_split_rows}
 use Rattle.ltm_units.specs.Results.{◌>>>◌}
 use Rattle.ltm_scenario.specs.declared.setup.Setup.{Setup}
 use Rattle.ltm_scenario.specs.declared.setup.SetupFault.{SetupFault}
@@ -35,7 +35,8 @@ pub record IsSetup (setup : Setup) : Type 0 where
 abbrev pub default_cells : ℕ
 default_cells = 54000000
 
--- the setup of a case that does not say how large it may be, nor that turns move whole or capacities are carried
+-- the setup of a case that does not say how large it may be, nor that turns move whole, capacities are carried, or no history is
+-- kept
 abbrev pub setup_of : Millis → ℕ → Units → Setup
 setup_of step slots capacity = record {
   step = step;
@@ -48,6 +49,7 @@ setup_of step slots capacity = record {
   most_destinations = default_destinations;
   by_turn = false;
   carry = false;
+  history = true;
 }
 
 abbrev pub is_between : ℕ → ℕ → ℕ → Bool
@@ -57,6 +59,18 @@ is_between least most n = nat_le least n && nat_le n most
 abbrev pub limited : ℕ → ℕ → SetupFault → Result (Unit {0}) SetupFault
 limited most n fault = if is_between 1 most n then Ok tt else Err fault
 
+-- what a case may ask for where its history is kept, and where it is not
+abbrev pub kept_or : Bool → ℕ → ℕ → ℕ
+kept_or history kept most = if history then kept else most
+
+-- rows, links and destinations are within their limits
+abbrev pub sizes_checked : Setup → Result (Unit {0}) SetupFault
+sizes_checked setup =
+    limited (kept_or setup.history most_kept_rows most_rows) setup.most_demand_rows MostRows
+    >>> limited (kept_or setup.history most_kept_rows most_rows) setup.most_split_rows MostRows
+    >>> limited (kept_or setup.history most_kept_links most_links) setup.most_links MostLinks
+    >>> limited (kept_or setup.history most_kept_destinations most_destinations) setup.most_destinations MostDestinations
+
 -- the first field that is out of its limits, the first three counted from 1; what bounds the case comes last
 abbrev pub setup_checked : Setup → Result (Unit {0}) SetupFault
 setup_checked setup =
@@ -64,7 +78,4 @@ setup_checked setup =
     >>> limited most_slots setup.slots (Range 2)
     >>> limited most_in_slot setup.origin_capacity.0 (Range 3)
     >>> limited largest_cells setup.most_cells MostCells
-    >>> limited most_rows setup.most_demand_rows MostRows
-    >>> limited most_rows setup.most_split_rows MostRows
-    >>> limited most_links setup.most_links MostLinks
-    >>> limited most_destinations setup.most_destinations MostDestinations
+    >>> sizes_checked setup

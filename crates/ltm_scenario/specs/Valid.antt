@@ -1,12 +1,12 @@
 -- The four rules of a valid case.
-use Rattle.std.specs.Prelude.{◌≡◌, ℕ, ◌==◌, ◌&&◌, ◌||◌, Bool, true, nat_le, List}
+use Rattle.std.specs.Prelude.{◌≡◌, ℕ, ◌==◌, ◌&&◌, ◌||◌, Bool, true, List}
 use Rattle.std.specs.List.{list_any, list_all, zip}
 use Rattle.ltm_network.specs.Network.{out_links, head_of}
 use Rattle.ltm_demand.specs.declared.row.DemandRow.{DemandRow}
 use Rattle.ltm_splits.specs.Rows.{SplitRow, is_of}
 use Rattle.ltm_scenario.specs.Data.{ScenarioData}
 use Rattle.ltm_scenario.specs.Reads.{destination_node, has_split}
-use Rattle.ltm_scenario.specs.Cells.{cells, most_cells}
+use Rattle.ltm_scenario.specs.Cells.{cells, has_room}
 
 -- the node and the destination have a split row from slot 0 on
 abbrev pub has_start : List SplitRow → ℕ → ℕ → Bool
@@ -34,9 +34,9 @@ is_split_begun s row = has_start s.splits row.0.node.0 row.0.destination
 abbrev pub is_split_led : ScenarioData → SplitRow → Bool
 is_split_led s row = all_lead_on s row.0.node.0 row.0.destination row.1
 
--- 4. the cells are few
+-- 4. the cells are few, where the history of a loading is kept
 abbrev pub is_small : ScenarioData → Bool
-is_small s = nat_le (cells s) (most_cells s)
+is_small s = has_room s (cells s)
 
 pub record IsValid (s : ScenarioData) : Type 0 where
   pub demand_is_split : list_all (is_demand_split s) s.demand ≡ true

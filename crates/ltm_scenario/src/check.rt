@@ -99,7 +99,7 @@ impl Scenario {
         ensures { result ≡ cells_checked self.now }
     {
         let cells = self.cells();
-        if cells <= self.parts.most_cells() {
+        if self.parts.has_room(cells) {
             return Ok(());
         }
         Err(ScenarioFault::CellsOver(cells))

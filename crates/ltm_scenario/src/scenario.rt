@@ -100,7 +100,7 @@ impl Scenario {
         if slots < now || slots > MOST_SLOTS {
             return false;
         }
-        self.parts.cells_with(slots) <= self.parts.most_cells()
+        self.parts.has_room(self.parts.cells_with(slots))
     }
 
     /// How many cells a loading has: the numbers that its pairs read, the counts of two sets of curves, and the entry

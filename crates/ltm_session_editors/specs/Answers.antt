@@ -8,7 +8,8 @@ use Rattle.ltm_scenario.specs.declared.edit.Edit.{Edit}
 use Rattle.ltm_scenario.specs.Data.{ScenarioData}
 use Rattle.ltm_casefile.specs.declared.faults.CaseFault.{CaseFault}
 use Rattle.ltm_casefile.specs.declared.faults.CaseFault.TheVariants as fault
-use Rattle.ltm_casefile.specs.Case.{case_of, is_case_file, asks_for}
+use Rattle.ltm_casefile.specs.Case.{is_case_file, asks_for}
+use Rattle.ltm_casefile.specs.KeptCase.{kept_case_of}
 use Rattle.ltm_session_editors.specs.declared.fault.EditsFault.{EditsFault}
 use Rattle.ltm_session_editors.specs.declared.fault.EditsFault.TheVariants as edits
 use Rattle.ltm_session_editors.specs.Files.{docs_of}
@@ -37,13 +38,14 @@ EditingAnswer (Err fault) said answer = answer ≡ Err (refusal.Case fault)
 -- the same of so many editors and the files that a folder tells, where it tells any
 abbrev pub AnswersEditing : Option Files → ℕ → Editing → Type 0
 AnswersEditing told editors answer = (read : Result ScenarioData CaseFault) × (said : Scripts)
-    × IfSome told (λ files. (case_of files ≡ read) × (scripts_of files editors ≡ said)) × EditingAnswer read said answer
+    × IfSome told (λ files. (kept_case_of files ≡ read) × (scripts_of files editors ≡ said)) × EditingAnswer read said answer
 
 -- a line tells of the refusal: it lies in the files
 abbrev pub IsTold : EditorsRefusal → Type 0
 IsTold (refusal.Case (fault.Folder file)) = ⊥
 IsTold (refusal.Case (fault.TooLong file)) = Unit {0}
 IsTold (refusal.Case (fault.Bad file row cause)) = Unit {0}
+IsTold (refusal.Case fault.NoHistory) = Unit {0}
 IsTold (refusal.Case fault.NoMemory) = ⊥
 IsTold (refusal.Edits (edits.Missing editor)) = ⊥
 IsTold (refusal.Edits (edits.TooLong editor)) = Unit {0}
@@ -56,6 +58,7 @@ abbrev pub IsUngiven : EditorsRefusal → Type 0
 IsUngiven (refusal.Case (fault.Folder file)) = Unit {0}
 IsUngiven (refusal.Case (fault.TooLong file)) = ⊥
 IsUngiven (refusal.Case (fault.Bad file row cause)) = ⊥
+IsUngiven (refusal.Case fault.NoHistory) = ⊥
 IsUngiven (refusal.Case fault.NoMemory) = ⊥
 IsUngiven (refusal.Edits (edits.Missing editor)) = Unit {0}
 IsUngiven (refusal.Edits (edits.TooLong editor)) = ⊥

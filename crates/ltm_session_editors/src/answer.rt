@@ -9,7 +9,7 @@ ghost use Rattle.ltm_session_editors.specs.Answers.{AnswersEditing, IsTold, IsUn
 use crate::editing::edit_scenario;
 use crate::edits::read_edits;
 use crate::refusal::EditorsRefusal;
-use ltm_casefile::{CaseFault, read_case};
+use ltm_casefile::{CaseFault, read_kept_case};
 use ltm_io::Folder;
 use std::alloc::Global;
 use std::sync::Wait;
@@ -18,7 +18,7 @@ use std::thread::Threads;
 /// What so many editors, at most 8, make of the folder's case, as a text: a line for each call, in the order of their one
 /// history, as `call 1 editor 2 accepted version 1`, and then the totals of the loading of the scenario that they leave.
 ///
-/// The case is read first, as `read_case` has it; then the files of edits are fetched and read, as `read_edits` has it; then each
+/// The case is read first, as `read_kept_case` has it; then the files of edits are fetched and read, as `read_edits` has it; then each
 /// editor makes a call of each line of its file, in a thread of its own where one can be made.
 pub fn editing_text<R: Threads + Wait + Sync, F: Folder>(
     rt: &R,
@@ -44,7 +44,7 @@ pub fn editing_text<R: Threads + Wait + Sync, F: Folder>(
         → (Contains (docs_of editors) d → ⊥)
         → F.faults folder.new d ≡ F.faults folder.old d) }
 {
-    let scenario = match read_case(alloc, folder) {
+    let scenario = match read_kept_case(alloc, folder) {
         Ok(scenario) => scenario,
         Err(fault) => return Err(EditorsRefusal::Case(fault)),
     };

@@ -3,3 +3,4 @@ pub mod AreSettings
 pub mod Totals
 pub mod Links
 pub mod GroupLists
+pub mod Producing

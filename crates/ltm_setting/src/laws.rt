@@ -1,4 +1,8 @@
 //! A scenario's data make a setting, so what holds of every loading holds of a scenario's.
+ghost use Rattle.std.specs.Prelude.{ℕ, ◌<◌, ◌≤◌};
+ghost use Rattle.ltm_units.specs.Bounds.{most_produced};
+ghost use Rattle.ltm_units.specs.Sums.{sum_below};
+ghost use Rattle.ltm_curve.specs.Counts.{total};
 ghost use Rattle.ltm_loading.specs.Setting.{IsSetting};
 ghost use Rattle.ltm_setting.specs.Setting.{setting_of};
 ghost use Rattle.ltm_setting.specs.ScenarioLaw.{ScenariosAreSettings, LoadingsOfScenarios};
@@ -45,5 +49,17 @@ pub fn is_setting(scenario: &Scenario)
     ensures setting { IsSetting (setting_of scenario.now) }
 {
     scenarios_are_settings();
+    let _setup = scenario.setup();
+}
+
+/// However many origins are added up, they have produced no more by a boundary than all rows of demand may say: for all
+/// destinations together, and for one. Costs nothing when it runs.
+#[inline]
+pub fn little_is_produced(scenario: &Scenario)
+    ensures all { (n k : ℕ) → sum_below n (λ u. total (setting_of scenario.now).destinations ((setting_of scenario.now).produced u) k)
+        ≤ most_produced }
+    ensures one { (n d k : ℕ) → d < (setting_of scenario.now).destinations
+        → sum_below n (λ u. (setting_of scenario.now).produced u d k) ≤ most_produced }
+{
     let _setup = scenario.setup();
 }

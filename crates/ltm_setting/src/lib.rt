@@ -14,7 +14,7 @@ mod readers;
 mod row_groups;
 
 pub use groups::{arr_of, dep_of, group_count};
-pub use laws::{is_setting, loadings_of_scenarios, scenarios_are_settings};
+pub use laws::{is_setting, little_is_produced, loadings_of_scenarios, scenarios_are_settings};
 pub use readers::{
     by_turn, capacity, delays, destination_at, destination_count, entry_limit, exit_limit, head,
     in_links, limits, link_count, node_count, origin_capacity, out_links, produced, produced_row,

@@ -6,14 +6,14 @@ abbrev pub most_slots : ℕ
 most_slots = 10000
 
 abbrev pub most_links : ℕ
-most_links = 16000
+most_links = 40000
 
 -- two ends of each link
 abbrev pub most_nodes : ℕ
-most_nodes = 32000
+most_nodes = 80000
 
 abbrev pub most_destinations : ℕ
-most_destinations = 256
+most_destinations = 2000
 
 -- a step, in milliseconds
 abbrev pub longest_step : ℕ
@@ -26,6 +26,16 @@ longest_time = 3600000000
 -- vehicles that stand on a kilometre
 abbrev pub most_per_km : ℕ
 most_per_km = 10000
+
+-- ---- of a case whose history is kept, in which each destination has a count at every boundary of every link
+abbrev pub most_kept_links : ℕ
+most_kept_links = 16000
+
+abbrev pub most_kept_destinations : ℕ
+most_kept_destinations = 256
+
+abbrev pub most_kept_rows : ℕ
+most_kept_rows = 500000
 
 -- ---- of a case that does not say how large it may be
 abbrev pub default_links : ℕ
@@ -55,16 +65,16 @@ most_amount = 1000000000
 
 -- what an origin has produced for a destination, or for all
 abbrev pub most_produced : ℕ
-most_produced = 500000000000000
+most_produced = 8000000000000000
 
 -- ---- rows and bytes
 -- rows of demand, and rows of splits
 abbrev pub most_rows : ℕ
-most_rows = 500000
+most_rows = 8000000
 
--- numbers that a pair of node and slot reads, at five arms, four out-links and 256 destinations
+-- numbers that a pair of node and slot reads, at five arms, four out-links and 2,000 destinations
 abbrev pub widest_row : ℕ
-widest_row = 4618
+widest_row = 36010
 
 -- bytes of a file of a case, of edits or of routes
 abbrev pub longest_file : ℕ
@@ -72,4 +82,4 @@ longest_file = 16777216
 
 -- places and rows of a table of marks
 abbrev pub most_marked : ℕ
-most_marked = 65536
+most_marked = 262144

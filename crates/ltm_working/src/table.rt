@@ -29,7 +29,7 @@ use ltm_units::{NoMemory, Pair};
 use std::alloc::Global;
 
 /// The greatest count of numbers that the inputs of a pair are: room for them serves every claim.
-pub const WIDEST: u32 = 4618;
+pub const WIDEST: u32 = 36_010;
 
 /// What a repair works on: the counts, the inputs that are kept of each pair without its counts, the active and the
 /// claimed pairs with the inputs of the claims, for each link and boundary the slots that read there, and the cells that

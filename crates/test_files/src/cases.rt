@@ -120,6 +120,7 @@ fn shown(alloc: Global, fault: CaseFault) -> Result<String, NoMemory> {
         CaseFault::Folder(file) => format!(in alloc; "no {file:?}")?,
         CaseFault::TooLong(file) => format!(in alloc; "too long {file:?}")?,
         CaseFault::Bad { file, row, cause } => format!(in alloc; "{file:?} {row} {cause:?}")?,
+        CaseFault::NoHistory => format!(in alloc; "no history")?,
         CaseFault::NoMemory => format!(in alloc; "no memory")?,
     };
     Ok(text)

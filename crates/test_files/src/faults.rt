@@ -208,6 +208,21 @@ const LONG: &[(Base, Put, &str)] = &[
         Put::Newlines(Doc::Demand, 16_777_216),
         "Demand 1 Header",
     ),
+    (
+        Base::Setup("step_ms,slots,origin_capacity,rows,history\n1000,4,1,500000,0\n"),
+        Put::Newlines(Doc::Splits, 16_777_217),
+        "too long Splits",
+    ),
+    (
+        Base::Setup("step_ms,slots,origin_capacity,rows,history\n1000,4,1,500001,0\n"),
+        Put::Newlines(Doc::Splits, 16_777_217),
+        "Splits 1 Header",
+    ),
+    (
+        Base::Setup("step_ms,slots,origin_capacity,rows,history\n1000,4,1,500001,0\n"),
+        Put::Newlines(Doc::Links, 16_777_217),
+        "too long Links",
+    ),
 ];
 
 #[test]

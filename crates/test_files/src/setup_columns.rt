@@ -131,7 +131,74 @@ const SIZES: &[(Base, Put, &str)] = &[
     ),
 ];
 
+// Where no history is kept, cells are not asked for, and the other sizes go further.
+const HISTORY: &[(Base, Put, &str)] = &[
+    (
+        Base::Setup("step_ms,slots,origin_capacity,history\n1000,4,1,2\n"),
+        Put::Nothing,
+        "Setup 2 Range(4)",
+    ),
+    (
+        Base::Setup("step_ms,slots,origin_capacity,carry,history\n1000,4,1,2,2\n"),
+        Put::Nothing,
+        "Setup 2 Range(4)",
+    ),
+    (
+        Base::Setup("step_ms,slots,origin_capacity,history,carry\n1000,4,1,0,0\n"),
+        Put::Nothing,
+        "Setup 1 Header",
+    ),
+    (
+        Base::Setup("step_ms,slots,origin_capacity,links,history\n1000,4,1,16001,1\n"),
+        Put::Nothing,
+        "Setup 2 Range(4)",
+    ),
+    (
+        Base::Setup(
+            "step_ms,slots,origin_capacity,rows,links,destinations,history\n1000,4,1,8000001,40000,2000,0\n",
+        ),
+        Put::Nothing,
+        "Setup 2 Range(4)",
+    ),
+    (
+        Base::Setup(
+            "step_ms,slots,origin_capacity,rows,links,destinations,history\n1000,4,1,8000000,40001,2000,0\n",
+        ),
+        Put::Nothing,
+        "Setup 2 Range(5)",
+    ),
+    (
+        Base::Setup(
+            "step_ms,slots,origin_capacity,rows,links,destinations,history\n1000,4,1,8000000,40000,2001,0\n",
+        ),
+        Put::Nothing,
+        "Setup 2 Range(6)",
+    ),
+    (
+        Base::Setup(
+            "step_ms,slots,origin_capacity,rows,links,destinations,history\n1000,4,1,8000000,40000,2000,0\n",
+        ),
+        Put::Nothing,
+        "good",
+    ),
+    (
+        Base::Setup("step_ms,slots,origin_capacity,cells,history\n1000,4,1,101,1\n"),
+        Put::Nothing,
+        "Whole 0 CellsOver(102)",
+    ),
+    (
+        Base::Setup("step_ms,slots,origin_capacity,cells,history\n1000,4,1,1,0\n"),
+        Put::Nothing,
+        "good",
+    ),
+];
+
 #[test]
 fn sizes_are_those_of_the_setup(rt: HostRuntime) {
     expect(&rt, rt.alloc(), SIZES);
+}
+
+#[test]
+fn history_may_be_left_out(rt: HostRuntime) {
+    expect(&rt, rt.alloc(), HISTORY);
 }

@@ -184,6 +184,19 @@ fn fetches_signals_where_they_are_asked_for(rt: HostRuntime) -> Result<(), Fail>
     expect(&rt, &["load"], &mut folder, Status::BadCase, line)
 }
 
+// What needs all counts of a loading is refused; no line of a script is read.
+#[test]
+fn says_that_a_case_keeps_no_history(rt: HostRuntime) -> Result<(), Fail> {
+    let setup = "step_ms,slots,origin_capacity,history\n1000,4,1,0\n";
+    let mut folder = folder_of(rt.alloc(), [setup, LINKS, DEMAND, SPLITS], &[])?;
+    let line = "no history\n";
+    let refused: [&[&str]; 3] = [&["curves"], &["check"], &["session", "0"]];
+    for words in refused {
+        expect(&rt, words, &mut folder, Status::NoHistory, line)?;
+    }
+    expect(&rt, &["load"], &mut folder, Status::Ok, REPORT)
+}
+
 #[test]
 fn other_words_are_told_the_usage(rt: HostRuntime) -> Result<(), Fail> {
     let cases: [&[&str]; 7] = [

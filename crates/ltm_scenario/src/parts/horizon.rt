@@ -1,6 +1,6 @@
 //! A longer horizon of all tables, and the way back. Neither takes memory.
 ghost use Rattle.std.specs.Prelude.{◌≡◌, ◌<◌, ◌≤◌, true, Ok, Err, OnOk, OnErr, IfOk, IfErr};
-ghost use Rattle.ltm_scenario.specs.Cells.{cells_with, most_cells};
+ghost use Rattle.ltm_scenario.specs.Cells.{cells_with, has_room};
 ghost use Rattle.ltm_scenario.specs.Horizon.{with_slots, with_horizon};
 ghost use Rattle.ltm_scenario.specs.State.{KeepsRoom};
 ghost use Rattle.ltm_scenario.specs.Undo.{undone, CanUndo, Undoes};
@@ -43,7 +43,7 @@ impl Parts {
             return Err(HorizonFault::BadSlots);
         }
         let cells = self.cells_with(slots);
-        if cells > self.most_cells() {
+        if !self.has_room(cells) {
             return Err(HorizonFault::CellsOver(cells));
         }
         Ok(())

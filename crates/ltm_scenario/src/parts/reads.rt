@@ -3,7 +3,7 @@ ghost use Rattle.std.specs.Prelude.{◌≡◌, ℕ, ◌+◌, ◌*◌, ◌<◌, �
 ghost use Rattle.std.specs.List.{list_all, zip};
 ghost use Rattle.ltm_network.specs.Network.{out_links};
 ghost use Rattle.ltm_scenario.specs.Reads.{has_no_out_link, has_split};
-ghost use Rattle.ltm_scenario.specs.Cells.{width, widths, cells_with, cells_of, most_cells};
+ghost use Rattle.ltm_scenario.specs.Cells.{width, widths, cells_with, cells_of, has_room};
 ghost use Rattle.ltm_scenario.specs.Valid.{leads_on};
 ghost use Rattle.ltm_scenario.specs.Build.{are_slots};
 ghost use Rattle.ltm_scenario.specs.Edits.{is_out_link, weight_of, weights_at};
@@ -132,11 +132,11 @@ impl Parts {
             && self.all_lead_on(destination, other_links, other_weights)
     }
 
-    /// The most cells that the case may have.
-    pub fn most_cells(&self) -> u128
-        ensures { result ≡ most_cells (scenario_in self.now) }
+    /// Whether the case may have so many cells: any number where no history is kept.
+    pub fn has_room(&self, cells: u128) -> bool
+        ensures { result ≡ has_room (scenario_in self.now) cells }
     {
-        u128::from(self.setup.most_cells)
+        !self.setup.history || cells <= u128::from(self.setup.most_cells)
     }
 
     /// How many it would have over that many slots.

@@ -7,17 +7,17 @@ returns-in-Err-clause-fault g c = case_refused _ c.in-Err.fault c.in-Err.ensures
 
 pub returns-in-Err-read_file-clause-fault : goal.returns-in-Err-read_file-clause-fault
 returns-in-Err-read_file-clause-fault g c =
-    file_refused _ _ c.in-Ok.scenario c.in-Err-read_file.refusal c.read_case.ensures.keeps c.in-Ok.ensures.ok c.in-Err-read_file.ensures.fault
+    file_refused _ _ c.in-Ok.scenario c.in-Err-read_file.refusal c.read_kept_case.ensures.keeps c.in-Ok.ensures.ok c.in-Err-read_file.ensures.fault
 
 pub returns-clause-text : goal.returns-clause-text
 returns-clause-text g c =
     on_ok c.answer_curves.result _ _
-    (λ text says. file_answer _ _ c.in-Ok.scenario c.in-Ok-read_file.curves (Ok text.items) c.read_case.ensures.keeps c.in-Ok.ensures.ok c.in-Ok-read_file.ensures.file says) c.answer_curves.ensures.text
+    (λ text says. file_answer _ _ c.in-Ok.scenario c.in-Ok-read_file.curves (Ok text.items) c.read_kept_case.ensures.keeps c.in-Ok.ensures.ok c.in-Ok-read_file.ensures.file says) c.answer_curves.ensures.text
 
 pub returns-clause-fault : goal.returns-clause-fault
 returns-clause-fault g c =
     on_err c.answer_curves.result _ _
-    (λ e says. answer_refused _ _ c.in-Ok.scenario c.in-Ok-read_file.curves e c.read_case.ensures.keeps c.in-Ok.ensures.ok c.in-Ok-read_file.ensures.file says) c.answer_curves.ensures.fault
+    (λ e says. answer_refused _ _ c.in-Ok.scenario c.in-Ok-read_file.curves e c.read_kept_case.ensures.keeps c.in-Ok.ensures.ok c.in-Ok-read_file.ensures.file says) c.answer_curves.ensures.fault
 
 pub returns-clause-missed : goal.returns-clause-missed
 returns-clause-missed g c =

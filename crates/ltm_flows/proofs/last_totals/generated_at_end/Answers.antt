@@ -1,4 +1,4 @@
-use Rattle.std.proofs.Common.{◌∙◌, ◌≡◌, ℕ, arith, ap}
+use Rattle.std.proofs.Common.{◌∙◌, ◌≡◌, ℕ, ◌+◌, arith, ap}
 use Rattle.ltm_units.proofs.Sums.{sum_below_more}
 use Rattle.ltm_curve.specs.Counts.{total}
 use Rattle.ltm_setting.specs.Setting.{setting_of}
@@ -12,5 +12,11 @@ loop-node-preserved c =
     c.produced_total-sum.ensures.value ∙ ap (λ (k : ℕ). total s.destinations (s.produced node) k) c.slot_count-last.ensures.value in
     record {
       sum = omega (arith, sum_below_more (λ u. total s.destinations (s.produced u) s.slots) node, made, c.loop-node.invariant.sum);
-      small = omega (arith, c.produced_total-sum.ensures.small, c.loop-node.invariant.small);
+      small = omega (
+        arith,
+        sum_below_more (λ u. total s.destinations (s.produced u) s.slots) node,
+        made,
+        c.loop-node.invariant.sum,
+        c.little_is_produced.ensures.all (node + 1) s.slots,
+      );
     }

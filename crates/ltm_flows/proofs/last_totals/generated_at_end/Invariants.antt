@@ -1,4 +1,4 @@
-use Rattle.std.proofs.Common.{◌≡◌, ◌≤◌, ◌*◌}
+use Rattle.std.proofs.Common.{◌≡◌, ◌≤◌}
 use Rattle.ltm_units.specs.Bounds.{most_produced}
 use Rattle.ltm_units.specs.Sums.{sum_below}
 use Rattle.ltm_curve.specs.Counts.{total}
@@ -8,5 +8,5 @@ use Rattle.ltm_flows.proofs.last_totals.generated_at_end.Given as goal
 abbrev pub invariant-loop-node : goal.invariant-loop-node
 invariant-loop-node l = record {
   sum : l.sum ≡ sum_below l.node (λ u. total (setting_of l.scenario).destinations ((setting_of l.scenario).produced u) (setting_of l.scenario).slots);
-  small : l.sum ≤ l.node * most_produced;
+  small : l.sum ≤ most_produced;
 }

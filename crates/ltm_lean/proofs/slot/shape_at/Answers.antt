@@ -10,7 +10,7 @@ overflow_cast-destinations c =
 pub returns-clause-small : goal.returns-clause-small
 returns-clause-small c =
     let s = setting_of c.args.scenario.now in
-    let many : length c.on.result.now ≤ 256 =
+    let many : length c.on.result.now ≤ 2000 =
     omega (arith, ap length c.on.ensures, few_listed s c.args.tables.now c.args.node.now.node.0 c.is_setting.ensures.setting c.requires.tables c.requires.node.there) in
     let ins : c.len.result ≤ 4 =
     omega (arith, c.len.ensures, c.args.node.now.ins.ok.0, c.requires.node.incoming.count, c.is_setting.ensures.setting.small.few_ins c.args.node.now.node.0 c.requires.node.there) in

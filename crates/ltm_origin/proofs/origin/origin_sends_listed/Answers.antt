@@ -35,7 +35,7 @@ first_less_of-requires-clause-part c =
     part_listed (setting_of c.args.scenario.now) c.args.node.0 c.args.slot c.min-goal.result c.args.list.now c.is_setting.ensures.setting c.requires.node c.requires.slot c.requires.order c.requires.others few
 
 pub first_less_of-requires-clause-behind : goal.first_less_of-requires-clause-behind
-first_less_of-requires-clause-behind c = λ d l. omega (arith, none_at (length c.args.list.now) 256 d l)
+first_less_of-requires-clause-behind c = λ d l. omega (arith, none_at (length c.args.list.now) 2000 d l)
 
 pub returns : goal.returns
 returns c = λ counts load h i l.
@@ -44,6 +44,6 @@ returns c = λ counts load h i l.
     let goal : c.min-goal.result ≡ origin_goal (setting_of c.args.scenario.now) counts c.args.node.0 c.args.slot =
     omega (arith, c.min-goal.ensures, c.saturating_add.ensures, c.produced_total-all.ensures.value, c.produced_total-all.ensures.small, c.origin_capacity.ensures.value, h.all) in
     let first : slice_index c.first_less_of.new.into i ≡ first_units (length c.args.list.now) (picked ((setting_of c.args.scenario.now).produced c.args.node.0) c.args.list.now) c.min-goal.result (c.args.slot + 1) i =
-    c.first_less_of.ensures i l ∙ omega (arith, none_at (length c.args.list.now) 256 i l) in
+    c.first_less_of.ensures i l ∙ omega (arith, none_at (length c.args.list.now) 2000 i l) in
     c.take_away.ensures i (search rules)
     ∙ sends_listed (setting_of c.args.scenario.now) counts c.args.node.0 c.args.slot c.min-goal.result c.args.list.now c.args.left c.args.gone.now i (slice_index c.first_less_of.new.into i) c.is_setting.ensures.setting c.requires.node c.requires.slot c.requires.order c.requires.others few h goal l first

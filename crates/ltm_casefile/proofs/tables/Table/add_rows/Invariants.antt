@@ -7,7 +7,7 @@ abbrev pub invariant-rows : goal.invariant-rows
 invariant-rows l = record {
   left : rows_added l.self l.number l.scenario l.records ≡ rows_added l.self 2 l.initial.scenario l.initial.records;
   splits : l.self ≡ table.Links → l.scenario.splits ≡ [];
-  few : l.number + length l.records ≤ 16777218;
+  few : l.number + length l.records ≤ 268435458;
 }
 
 abbrev pub decreases-rows : goal.decreases-rows

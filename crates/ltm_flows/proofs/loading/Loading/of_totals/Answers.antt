@@ -32,6 +32,6 @@ returns c = (
     produced = c.in_ok-production.ensures.amounts;
     generated = λ k l.
         all_produced_is (setting_of c.args.scenario.now) c.in_ok-production.production k c.in_ok-production.ensures.nodes (omega (arith, c.in_ok-production.ensures.room, l))
-        (λ n x. c.in_ok-production.ensures.amounts n k x l);
+        (λ n x. c.in_ok-production.ensures.amounts n k x l) (c.little_is_produced.ensures.all (setting_of c.args.scenario.now).nodes k);
   },
 )

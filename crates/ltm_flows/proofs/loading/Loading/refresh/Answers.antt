@@ -43,5 +43,5 @@ returns c = record {
   produced = amounts c;
   generated = λ k l.
       all_produced_is (setting_of c.args.scenario.now) c.renew.new.self k (omega (arith, c.renew.ensures.sizes.nodes, c.args.self.now.origins, c.requires.fits.nodes))
-      (omega (arith, c.renew.ensures.sizes.room, l, c.requires.fits.room)) (λ n x. amounts c n k x l);
+      (omega (arith, c.renew.ensures.sizes.room, l, c.requires.fits.room)) (λ n x. amounts c n k x l) (c.little_is_produced.ensures.all (setting_of c.args.scenario.now).nodes k);
 }
