@@ -183,3 +183,19 @@ force_some f es i count = ap (λ l. option_map (λ (e : Entry). e.1) (last_or No
 pub force_last : (f : ℕ) (es : List Entry) (count : ℕ) → 0 < count → IsCount es f count → entry_in_force es f ≡ Some (get_or es (count - 1) (0, [])).1
 force_last f es zero some count = absurd (omega arith)
 force_last f es (suc i) some count = force_some f es i count ∙ ap (λ n. Some (get_or es n (0, [])).1) (omega arith)
+
+-- the row in force stays while no further entry begins
+module _ (es : List Entry) (f u n : ℕ) (count : IsCount es f n) (later : f ≤ u) where
+  still_counted : IsRising es → (n < length es → u < start_at es n) → IsCount es u n
+  still_counted rising next = record {
+    in_range = count.in_range;
+    begun_before = λ j lt. let one = count.begun_before j lt in omega (arith, one);
+    later_after = λ j le lt. let here = next (omega arith) in grind (arith, here, rising n j, λ (same : n ≡ j). ap (start_at es) same);
+  }
+
+pub force_stays : (es : List Entry) (f u n : ℕ) → IsCount es f n → IsCount es u n → entry_in_force es u ≡ entry_in_force es f
+force_stays es f u zero one other = force_none u es other ∙ sym (force_none f es one)
+force_stays es f u (suc n) one other = force_some u es n other ∙ sym (force_some f es n one)
+
+pub force_until : (es : List Entry) (f u n : ℕ) → IsRising es → IsCount es f n → f ≤ u → (n < length es → u < start_at es n) → entry_in_force es u ≡ entry_in_force es f
+force_until es f u n rising count later next = force_stays es f u n count (still_counted es f u n count later rising next)

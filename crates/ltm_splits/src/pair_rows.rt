@@ -1,5 +1,5 @@
 //! The rows of one node and one destination.
-ghost use Rattle.std.specs.Prelude.{◌≡◌, ℕ, [], ◌∷◌, ◌++◌, length, Some, None, IfOk, IfErr, IfSome, OnOk, OnErr, IsSome, is_some, if◌then◌else◌, slice_get, sum, ◌<◌};
+ghost use Rattle.std.specs.Prelude.{◌≡◌, ℕ, [], ◌∷◌, ◌++◌, length, Some, None, IfOk, IfErr, IfSome, OnOk, OnErr, IsSome, is_some, if◌then◌else◌, slice_get, sum, ◌<◌, ◌≤◌, ◌-◌, ◌^◌};
 ghost use Rattle.std.specs.Option.{option_map, option_copied};
 ghost use Rattle.std.specs.Map.{lookup, remove_entry};
 ghost use Rattle.std.specs.BTreeMap.{insert_entry, is_at};
@@ -87,6 +87,19 @@ impl PairRows {
         }
         let last = count - 1;
         Some(&self.rows.as_slice()[last].1)
+    }
+
+    /// The slot until which the row in force at a slot stays in force: the first slot of the next row, or the greatest number
+    /// where no row follows.
+    pub(crate) fn stays_until(&self, slot: u32) -> u32
+        ensures stays { (u : ℕ) → slot ≤ u → u < result → entry_in_force self.now u ≡ entry_in_force self.now slot }
+        ensures later { slot < 2 ^ 32 - 1 → slot < result }
+    {
+        let count = self.count_begun(slot);
+        match self.rows.as_slice().get(count) {
+            Some(row) => row.0,
+            None => u32::MAX,
+        }
     }
 
     /// The first slot of the first row.

@@ -5,6 +5,7 @@ ghost use Rattle.ltm_splits.specs.Weights.{AreWeights};
 ghost use Rattle.ltm_units.specs.Bounds as bounds;
 ghost use Rattle.ltm_units.specs.Bounds.{most_slots};
 
+mod staying;
 mod whole;
 
 use crate::keys::{SplitFault, SplitKey};
