@@ -18,6 +18,6 @@ pub use laws::{is_setting, little_is_produced, loadings_of_scenarios, scenarios_
 pub use readers::{
     by_turn, capacity, delays, destination_at, destination_count, entry_limit, exit_limit, head,
     in_links, limits, link_count, node_count, origin_capacity, out_links, produced, produced_row,
-    produced_total, slot_count, step, tail, weights,
+    produced_total, slot_count, step, tail, weights, weights_stay,
 };
 pub use row_groups::{NodeGroups, node_groups};

@@ -1,5 +1,5 @@
 //! The numbers of a setting, read from a scenario.
-ghost use Rattle.std.specs.Prelude.{◌≡◌, ◌≤◌, ◌<◌, ℕ, length, slice_index, IfSome, Some, None, All, map};
+ghost use Rattle.std.specs.Prelude.{◌≡◌, ◌≤◌, ◌<◌, ◌-◌, ◌^◌, ℕ, length, slice_index, IfSome, Some, None, All, map};
 ghost use Rattle.ltm_diagram.specs.Delays.{IsDelay};
 ghost use Rattle.ltm_diagram.specs.Passing.{capacity_in};
 ghost use Rattle.ltm_curve.specs.Counts.{total};
@@ -276,4 +276,15 @@ pub fn weights(scenario: &Scenario, node: NodeId, destination: u32, slot: u32) -
 {
     let _setup = scenario.setup();
     scenario.splits().weights_at(node, destination, slot)
+}
+
+/// The slot until which the weights in force at a node for a destination in a slot stay in force: the first slot of the next
+/// split row, or the greatest number where no row follows.
+#[tactic(auto, unfolding(crate::specs::Setting::setting_of))]
+pub fn weights_stay(scenario: &Scenario, node: NodeId, destination: u32, slot: u32) -> u32
+    ensures stay { (t j : ℕ) → slot ≤ t → t < result → (setting_of scenario.now).weight node.0 destination t j
+        ≡ (setting_of scenario.now).weight node.0 destination slot j }
+    ensures later { slot < 2 ^ 32 - 1 → slot < result }
+{
+    scenario.splits().stays_until(node, destination, slot)
 }
