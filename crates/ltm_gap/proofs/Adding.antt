@@ -88,7 +88,7 @@ pub more_of : (s : Setting) (l : Loading) (origin slot d units all late : ℕ) (
     → late ≡ share_of units (all - cut.arriving) all
     → ((v : ℕ) (c : Counts) → ShowsCounts s v c l → millis_of first ≡ earliest s c origin slot (produced_in_all s origin slot) (s.place d))
     → new.twice ≡ old.twice + twice_of units late (twice_time at.step.0 at.slot (millis_of first) (millis_of cut.last)) (twice_left at.step.0 at.slots at.slot)
-    → new.late ≡ old.late + late → new.twice ≤ old.twice + 2 ^ 80 → new.late ≤ old.late + 2 ^ 49 → IsMore s l origin slot d old new
+    → new.late ≡ old.late + late → new.twice ≤ old.twice + 2 ^ 84 → new.late ≤ old.late + 2 ^ 53 → IsMore s l origin slot d old new
 more_of s l origin slot d units all late at cut first old new read is so begins twice more small_twice small_late = record {
   twice_more = λ v c shows.
       let lates : late ≡ late_in s c d origin slot = so ∙ late_read s l v c origin slot d units all at cut shows read is in

@@ -54,7 +54,7 @@ adds_none s l owners part origin sums not =
     })
 
 -- ---- a part from nothing
-pub is_part : (s : Setting) (l : Loading) (owners : List ℕ) (part origins n : ℕ) (sums : List Sum) → origins ≡ s.nodes → length sums ≡ s.destinations → AddsPart s l owners part origins (replicate n no_sum) sums → AreSums (2 ^ 29) sums
+pub is_part : (s : Setting) (l : Loading) (owners : List ℕ) (part origins n : ℕ) (sums : List Sum) → origins ≡ s.nodes → length sums ≡ s.destinations → AddsPart s l owners part origins (replicate n no_sum) sums → AreSums (2 ^ 30) sums
     → IsPart s l owners part sums
 is_part s l owners part origins n sums all long adds small = record {
   one_for_each = long;
@@ -132,7 +132,7 @@ one_joined s l owners part old more new before is both = record {
       let m = is.late v c shows d low in
       let e = sum_below_more (λ p. sum_below s.nodes (of_part owners p (late_from s c d))) part in
       omega arith;
-  small = λ d. let h = both_small (part * 2 ^ 29) (2 ^ 29) (length old) old more new before.small is.small both d in (omega (arith, h.0), omega (arith, h.1));
+  small = λ d. let h = both_small (part * 2 ^ 30) (2 ^ 30) (length old) old more new before.small is.small both d in (omega (arith, h.0), omega (arith, h.1));
 }
 
 -- ---- all of them

@@ -43,14 +43,14 @@ pub record IsPart (s : Setting) (l : Loading) (owners : List ℕ) (part : ℕ) (
   pub one_for_each : length sums ≡ s.destinations
   pub twice : (version : ℕ) (c : Counts) → ShowsCounts s version c l → (d : ℕ) → d < s.destinations → (sum_at sums d).twice ≡ sum_below s.nodes (of_part owners part (twice_from s c d))
   pub late : (version : ℕ) (c : Counts) → ShowsCounts s version c l → (d : ℕ) → d < s.destinations → (sum_at sums d).late ≡ sum_below s.nodes (of_part owners part (late_from s c d))
-  pub small : AreSums (2 ^ 29) sums
+  pub small : AreSums (2 ^ 30) sums
 
 -- the sums of the first parts together
 pub record AreJoined (s : Setting) (l : Loading) (owners : List ℕ) (parts : ℕ) (sums : List Sum) : Type 0 where
   pub one_for_each : length sums ≡ s.destinations
   pub twice : (version : ℕ) (c : Counts) → ShowsCounts s version c l → (d : ℕ) → d < s.destinations → (sum_at sums d).twice ≡ sum_below parts (λ p. sum_below s.nodes (of_part owners p (twice_from s c d)))
   pub late : (version : ℕ) (c : Counts) → ShowsCounts s version c l → (d : ℕ) → d < s.destinations → (sum_at sums d).late ≡ sum_below parts (λ p. sum_below s.nodes (of_part owners p (late_from s c d)))
-  pub small : AreSums (parts * 2 ^ 29) sums
+  pub small : AreSums (parts * 2 ^ 30) sums
 
 -- ---- two sums of each destination
 -- a sum is two others together

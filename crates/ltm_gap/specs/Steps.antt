@@ -116,14 +116,14 @@ sum_at sums destination = slice_index_or sums destination no_sum
 
 -- no sum is greater than so many parts of the greatest size
 abbrev pub AreSums : ℕ → List Sum → Type 0
-AreSums parts sums = (d : ℕ) → ((sum_at sums d).twice ≤ parts * 2 ^ 80) × ((sum_at sums d).late ≤ parts * 2 ^ 49)
+AreSums parts sums = (d : ℕ) → ((sum_at sums d).twice ≤ parts * 2 ^ 84) × ((sum_at sums d).late ≤ parts * 2 ^ 53)
 
 -- those who are produced at an origin in a slot for a destination were added to a sum
 pub record IsMore (s : Setting) (l : Loading) (origin slot d : ℕ) (old new : Sum) : Type 0 where
   pub twice_more : (version : ℕ) (c : Counts) → ShowsCounts s version c l → new.twice ≡ old.twice + twice_in s c d origin slot
   pub late_more : (version : ℕ) (c : Counts) → ShowsCounts s version c l → new.late ≡ old.late + late_in s c d origin slot
-  pub small_twice : new.twice ≤ old.twice + 2 ^ 80
-  pub small_late : new.late ≤ old.late + 2 ^ 49
+  pub small_twice : new.twice ≤ old.twice + 2 ^ 84
+  pub small_late : new.late ≤ old.late + 2 ^ 53
 
 -- it was added to the destinations below one, and the others are as before
 pub record AddsBelow (s : Setting) (l : Loading) (origin slot : ℕ) (below : ℕ) (old new : List Sum) : Type 0 where

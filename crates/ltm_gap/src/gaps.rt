@@ -18,7 +18,7 @@ pub struct Gap {
 pub struct Gaps {
     sums: Vec<Sum>,
     ghost few: { length sums.items ≤ most_destinations },
-    ghost small: { AreSums (2 ^ 33) sums.items },
+    ghost small: { AreSums (2 ^ 34) sums.items },
 }
 
 impl Gaps {
@@ -31,7 +31,7 @@ impl Gaps {
     /// The sums of all destinations.
     pub(crate) fn new(sums: Vec<Sum>) -> Gaps
         requires few { length sums.items ≤ most_destinations }
-        requires small { AreSums (2 ^ 33) sums.items }
+        requires small { AreSums (2 ^ 34) sums.items }
         ensures { result.sums ≡ sums }
     {
         Gaps { sums }

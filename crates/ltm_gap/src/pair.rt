@@ -34,7 +34,7 @@ pub struct Pair {
 
 /// The node that a destination is.
 #[tactic(auto, unfolding(ltm_setting::specs::Setting::setting_of))]
-fn place_of(scenario: &Scenario, destination: u32) -> NodeId
+pub(crate) fn place_of(scenario: &Scenario, destination: u32) -> NodeId
     requires { IsDestination scenario.now destination }
     ensures node { result.0 ≡ (setting_of scenario.now).place destination }
     ensures there { IsNode scenario.now result.0 }
@@ -224,7 +224,7 @@ impl Pair {
         requires few { made.after ≤ most_produced }
         requires pair { IsFound (setting_of scenario.now) loading.now made.origin.0 made.slot self.old }
         requires count { length sums.old.items ≡ (setting_of scenario.now).destinations }
-        requires room { AreSums (2 ^ 30) sums.old.items }
+        requires room { AreSums (2 ^ 31) sums.old.items }
         ensures pair { OnOk result (IsFound (setting_of scenario.now) loading.now made.origin.0 made.slot
             self.new) }
         ensures count { OnOk result (length sums.new.items ≡ length sums.old.items) }
@@ -258,7 +258,7 @@ impl Pair {
         requires few { made.after ≤ most_produced }
         requires pair { IsPair (setting_of scenario.now) loading.now made.origin.0 made.slot self.old }
         requires count { length sums.old.items ≡ (setting_of scenario.now).destinations }
-        requires room { AreSums (2 ^ 30) sums.old.items }
+        requires room { AreSums (2 ^ 31) sums.old.items }
         ensures pair { OnOk result (IsPair (setting_of scenario.now) loading.now made.origin.0
             (made.slot + 1) self.new) }
         ensures count { OnOk result (length sums.new.items ≡ length sums.old.items) }
@@ -295,7 +295,7 @@ impl Pair {
         requires slot { IsSlot scenario.now slot }
         requires pair { IsPair (setting_of scenario.now) loading.now origin.0 slot self.old }
         requires count { length sums.old.items ≡ (setting_of scenario.now).destinations }
-        requires room { AreSums (2 ^ 30) sums.old.items }
+        requires room { AreSums (2 ^ 31) sums.old.items }
         ensures pair { OnOk result (IsPair (setting_of scenario.now) loading.now origin.0 (slot + 1)
             self.new) }
         ensures count { OnOk result (length sums.new.items ≡ length sums.old.items) }
@@ -331,7 +331,7 @@ impl Pair {
         requires origin { IsNode scenario.now origin.0 }
         requires pair { IsIdle (setting_of scenario.now) self.old }
         requires count { length sums.old.items ≡ (setting_of scenario.now).destinations }
-        requires room { AreSums (2 ^ 29) sums.old.items }
+        requires room { AreSums (2 ^ 30) sums.old.items }
         ensures pair { OnOk result (IsIdle (setting_of scenario.now) self.new) }
         ensures count { OnOk result (length sums.new.items ≡ length sums.old.items) }
         ensures adds { OnOk result (AddsSlots (setting_of scenario.now) loading.now origin.0
@@ -361,7 +361,7 @@ impl Pair {
         requires origin { IsNode scenario.now origin.0 }
         requires pair { IsIdle (setting_of scenario.now) self.old }
         requires count { length sums.old.items ≡ (setting_of scenario.now).destinations }
-        requires room { AreSums (2 ^ 29) sums.old.items }
+        requires room { AreSums (2 ^ 30) sums.old.items }
         ensures pair { OnOk result (IsIdle (setting_of scenario.now) self.new) }
         ensures count { OnOk result (length sums.new.items ≡ length sums.old.items) }
         ensures adds { OnOk result (AddsOwned (setting_of scenario.now) loading.now owners.now part

@@ -73,8 +73,8 @@ pub(crate) fn all_sums<R: Threads + Sync>(
 /// Adds the sums of one more part.
 fn add_sums(sums: &mut Vec<Sum>, more: &[Sum])
     requires same { length more.now ≡ length sums.old.items }
-    requires room { AreSums (2 ^ 33) sums.old.items }
-    requires more_room { AreSums (2 ^ 29) more.now }
+    requires room { AreSums (2 ^ 34) sums.old.items }
+    requires more_room { AreSums (2 ^ 30) more.now }
     ensures { BothBelow (length sums.old.items) sums.old.items more.now sums.new.items }
 {
     for destination in 0..sums.len() {

@@ -104,8 +104,8 @@ impl Sum {
             + twice_of units late (twice_time at.step.0 at.slot (millis_of first) (millis_of last))
             (twice_left at.step.0 at.slots at.slot) }
         ensures late { result.late ≡ self.late + late }
-        ensures small_twice { result.twice ≤ self.twice + 2 ^ 80 }
-        ensures small_late { result.late ≤ self.late + 2 ^ 49 }
+        ensures small_twice { result.twice ≤ self.twice + 2 ^ 84 }
+        ensures small_late { result.late ≤ self.late + 2 ^ 53 }
     {
         let time = twice_time(at, first, last);
         let left = twice_left(at);

@@ -27,4 +27,4 @@ returns c =
     let i : ℕ = c.loop-origin.origin in
     let few = c.node_count-origin-end.ensures.few in
     is_part s c.args.loading.now c.args.owners.now c.args.part i s.destinations c.loop-origin.sums.items (omega arith) c.loop-origin.invariant.count c.loop-origin.invariant.adds
-    (sums_more (i * most_slots) (2 ^ 29) c.loop-origin.sums.items (omega arith) c.loop-origin.invariant.small)
+    (sums_more (i * most_slots) (2 ^ 30) c.loop-origin.sums.items (omega arith) c.loop-origin.invariant.small)

@@ -7,6 +7,6 @@ abbrev pub invariant-loop-destination : goal.invariant-loop-destination
 invariant-loop-destination l = record {
   least : l.least ≡ sum_below l.destination (λ d. (sum_at l.self.sums.items d).twice / 2);
   late : l.late ≡ sum_below l.destination (λ d. (sum_at l.self.sums.items d).late);
-  small_least : l.least ≤ l.destination * 2 ^ 113;
-  small_late : l.late ≤ l.destination * 2 ^ 82;
+  small_least : l.least ≤ l.destination * 2 ^ 117;
+  small_late : l.late ≤ l.destination * 2 ^ 87;
 }

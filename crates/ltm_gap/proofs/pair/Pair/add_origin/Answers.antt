@@ -11,7 +11,7 @@ use Rattle.ltm_gap.proofs.pair.Pair.add_origin.Goals as goal
 pub add_slot-requires-clause-room : goal.add_slot-requires-clause-room
 add_slot-requires-clause-room c =
     let few : c.loop-slot.slot ≤ 10000 = omega arith in
-    sums_more (2 ^ 29 + c.loop-slot.slot) (2 ^ 30) c.loop-slot.sums.items (omega arith) (c.loop-slot.invariant.small (2 ^ 29) c.requires.room)
+    sums_more (2 ^ 30 + c.loop-slot.slot) (2 ^ 31) c.loop-slot.sums.items (omega arith) (c.loop-slot.invariant.small (2 ^ 30) c.requires.room)
 
 pub loop-slot-preserved : goal.loop-slot-preserved
 loop-slot-preserved c =
