@@ -13,3 +13,4 @@ pub mod Shown
 pub mod Adding
 pub mod Parting
 pub mod Same
+pub mod Staying

@@ -1,13 +1,14 @@
 -- What all spend is what those to each destination spend.
 use Rattle.std.proofs.Common.{◌≡◌, ℕ, ◌+◌, ◌-◌, ◌*◌, ◌<◌, ◌≤◌, ap, sym, arith, ◌∙◌}
 use Rattle.ltm_units.specs.Sums.{sum_below}
-use Rattle.ltm_units.proofs.Sums.{sum_below-le, sum_below-same, sum_below-mul, sum_below-plus, sum_below-swap}
+use Rattle.ltm_units.proofs.Sums.{sum_below-le, sum_below-same, sum_below-mul, sum_below-plus, sum_below-swap, sum_below_more}
 use Rattle.ltm_curve.specs.Counts.{Counts}
 use Rattle.ltm_loading.specs.Setting.{Setting, IsSetting}
 use Rattle.ltm_loading.specs.Groups.{dep_of, arr_of}
 use Rattle.ltm_loading.specs.Loading.{IsLoading}
 use Rattle.ltm_loading.specs.LoadingLaws.{WithinProduced, Conserved}
 use Rattle.ltm_loading.specs.Totals.{generated, arrived}
+use Rattle.ltm_gap.specs.Gaps.{spent_to}
 use Rattle.ltm_gap.specs.Laws.{SpentAddsUp}
 
 -- the difference of two sums, of which the one is nowhere less
@@ -40,3 +41,16 @@ spent_adds few kept = λ s c is loading.
     (sum_below-same s.slots (λ t. generated s (t + 1) - arrived s c (t + 1)) (λ t. sum_below s.destinations (λ d. left d t)) (λ t low. at_boundary few kept s c is loading (t + 1) (omega arith))
     ∙ sym (sum_below-swap s.destinations s.slots left))
     ∙ sym (sum_below-mul s.destinations (λ d. sum_below s.slots (left d)) s.step)
+
+-- what is spent to a destination, slot by slot
+abbrev pub spent_in : Setting → Counts → ℕ → ℕ → ℕ
+spent_in s c d t = sum_below s.nodes (λ origin. s.produced origin d (t + 1)) - c (arr_of s) d (t + 1)
+
+pub spent_next : (s : Setting) (c : Counts) (d t sum made came : ℕ) → sum ≡ sum_below t (spent_in s c d) → made ≡ sum_below s.nodes (λ origin. s.produced origin d (t + 1)) → came ≡ c (arr_of s) d (t + 1)
+    → sum + (made - came) ≡ sum_below (t + 1) (spent_in s c d)
+spent_next s c d t sum made came before made_is came_is =
+    let more : sum_below (t + 1) (spent_in s c d) ≡ sum_below t (spent_in s c d) + spent_in s c d t = sum_below_more (spent_in s c d) t in
+    omega (arith, before, made_is, came_is, more)
+
+pub spent_all : (s : Setting) (c : Counts) (d t sum step : ℕ) → sum ≡ sum_below t (spent_in s c d) → t ≡ s.slots → step ≡ s.step → sum * step ≡ spent_to s c d
+spent_all s c d t sum step is all same = ap (λ n. n * step) (is ∙ ap (λ n. sum_below n (spent_in s c d)) all) ∙ ap (λ n. sum_below s.slots (spent_in s c d) * n) same

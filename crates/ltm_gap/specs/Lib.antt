@@ -6,3 +6,4 @@ pub mod Gaps
 pub mod Told
 pub mod Steps
 pub mod Parts
+pub mod Arrived

@@ -1,22 +1,21 @@
 //! How the least times of all who travel are found, and what they spend.
-ghost use Rattle.std.specs.Prelude.{◌≡◌, ◌≤◌, replicate, IfOk};
-ghost use Rattle.ltm_curve.specs.Table.{counts_of};
+ghost use Rattle.std.specs.Prelude.{◌≡◌, ◌≤◌, ℕ, replicate, IfOk};
+ghost use Rattle.ltm_curve.specs.Counts.{Counts};
+ghost use Rattle.ltm_flows.specs.Shown.{ShowsCounts};
 ghost use Rattle.ltm_setting.specs.Setting.{setting_of};
-ghost use Rattle.ltm_setting.specs.Places.{IsDestination, IsBoundary, IsShapedFor};
+ghost use Rattle.ltm_setting.specs.Places.{IsDestination};
 ghost use Rattle.ltm_gap.specs.Gaps.{spent_to};
 ghost use Rattle.ltm_gap.specs.Parts.{most_parts, AreDealt};
 ghost use Rattle.ltm_gap.specs.Told.{Suits, AreGaps};
 ghost use Rattle.ltm_units.specs.Sums.{sum_below};
 
+use crate::arrived::arrived_at;
 use crate::dealing::{all_searches, deal, is_small, parts_for};
 use crate::gaps::Gaps;
 use crate::parts::{all_sums, joined, sums_of};
-use ltm_curve::Curves;
 use ltm_flows::Loading;
 use ltm_scenario::Scenario;
-use ltm_setting::{
-    arr_of, destination_count, is_setting, little_is_produced, node_count, produced, slot_count, step,
-};
+use ltm_setting::{destination_count, little_is_produced, node_count, produced, slot_count, step};
 use ltm_units::{NoMemory, NodeId};
 use std::alloc::Global;
 use std::thread::Threads;
@@ -93,15 +92,17 @@ fn produced_to(scenario: &Scenario, destination: u32, boundary: u32) -> u64
 }
 
 /// The time that those who travel to a destination spend, in units times milliseconds.
-pub fn spent_to(scenario: &Scenario, curves: &Curves, destination: u32) -> u128
+pub fn spent_to(scenario: &Scenario, loading: &Loading, destination: u32) -> u128
     requires destination { IsDestination scenario.now destination }
-    requires shape { IsShapedFor scenario.now curves.now }
-    ensures { result ≡ spent_to (setting_of scenario.now) (counts_of curves.now) destination }
+    requires suits { Suits (setting_of scenario.now) loading.now }
+    ensures { (version : ℕ) (c : Counts)
+        → ShowsCounts (setting_of scenario.now) version c loading.now
+        → result ≡ spent_to (setting_of scenario.now) c destination }
 {
     let mut sum = 0u128;
     for slot in 0..slot_count(scenario) {
         let produced = produced_to(scenario, destination, slot + 1);
-        let arrived = curves.get(arr_of(scenario), destination, slot + 1);
+        let arrived = arrived_at(scenario, loading, destination, slot + 1);
         sum += u128::from(produced.saturating_sub(arrived));
     }
     sum * u128::from(step(scenario).0)

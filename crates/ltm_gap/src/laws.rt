@@ -1,5 +1,6 @@
 //! What holds of earliest arrivals, of late units and of what is spent.
 ghost use Rattle.ltm_setting.specs.Setting.{setting_of};
+ghost use Rattle.ltm_gap.specs.Arrived.{CameAndStayed};
 ghost use Rattle.ltm_gap.specs.Laws.{EarliestIsFirst, NobodyComesBefore, ArriveInOrder, LateIsExact, SlotsMeet, SpentAddsUp};
 ghost use Rattle.ltm_gap.specs.Leaving.{end_of};
 ghost use Rattle.ltm_gap.specs.Told.{Suits};
@@ -55,6 +56,11 @@ pub fn spent_adds_up()
     within_produced();
     conserved();
 }
+
+/// What has come to the node of a destination has gone on or has arrived there.
+pub fn came_and_stayed()
+    ensures { CameAndStayed }
+{}
 
 /// Who passes a link comes later, by the end, and who comes to it later leaves it no sooner. Costs nothing when it runs.
 pub(crate) fn are_ways(scenario: &Scenario, loading: &Loading)
