@@ -6,13 +6,12 @@ use Rattle.ltm_scenario.specs.Data.{ScenarioData}
 use Rattle.ltm_scenario.specs.IsScenario.{IsScenario}
 use Rattle.ltm_setting.specs.Setting.{setting_of}
 use Rattle.ltm_loading.specs.Setting.{Setting}
-use Rattle.ltm_loading.specs.Loading.{IsLoading}
 use Rattle.ltm_flows.specs.declared.loading.Loading.{Loading}
-use Rattle.ltm_flows.specs.Shown.{ShowsCounts, version_of}
+use Rattle.ltm_flows.specs.Shown.{Shows, ShowsCounts, version_of}
 use Rattle.ltm_times.specs.Times.{time_spent}
 use Rattle.ltm_gap.specs.declared.gaps.Gap.{Gap}
 use Rattle.ltm_gap.specs.Gaps.{spent_to}
-use Rattle.ltm_gap.specs.Told.{IsGap, IsGapTo}
+use Rattle.ltm_gap.specs.Told.{Suits, IsGap, IsGapTo}
 use Rattle.ltm_report.specs.Gaps.{gap_line, gap_to_line}
 use Rattle.ltm_report.specs.GapReports.{gap_report, gap_to_report, gap_to_of, case_gap_report, IsGapReport}
 
@@ -37,12 +36,16 @@ gap_to_told s c d name told spent gap old new named time is wrote =
     let late = is.late in
     cc
 
-pub case_told : (s : ScenarioData) (c : Counts) (none first second : List ℕ) → IsScenario s → IsLoading (setting_of s) c → none ≡ [] → first ≡ none ++ gap_report 0 (setting_of s) c
-    → second ≡ first ++ texts_below (length s.destinations) (gap_to_of s c) → IsGapReport s second
+pub shown_suits : (s : Setting) (v : ℕ) (l : Loading) → Shows s v l → Suits s l
+shown_suits s v l (c, shows) = record { step = shows.step; slots = shows.shape.same_slots; links = shows.links; nodes = shows.nodes }
+
+pub case_told : (s : ScenarioData) (l : Loading) (none first second : List ℕ) → IsScenario s → Shows (setting_of s) 0 l → none ≡ []
+    → ((c : Counts) → ShowsCounts (setting_of s) 0 c l → first ≡ none ++ gap_report 0 (setting_of s) c)
+    → ((c : Counts) → ShowsCounts (setting_of s) 0 c l → second ≡ first ++ texts_below (length s.destinations) (gap_to_of s c)) → IsGapReport s second
 unfolding case_gap_report
-case_told s c none first second is loading empty one two = (
+case_told s l none first second is (c, shows) empty one two = (
   c,
   is,
-  loading,
-  two ∙ ap (λ (x : List ℕ). x ++ texts_below (length s.destinations) (gap_to_of s c)) (one ∙ ap (λ (x : List ℕ). x ++ gap_report 0 (setting_of s) c) empty),
+  shows.loading,
+  two c shows ∙ ap (λ (x : List ℕ). x ++ texts_below (length s.destinations) (gap_to_of s c)) (one c shows ∙ ap (λ (x : List ℕ). x ++ gap_report 0 (setting_of s) c) empty),
 )
