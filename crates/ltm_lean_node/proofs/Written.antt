@@ -1,8 +1,9 @@
 -- Numbers that are written from a place on, and parts of a row.
-use Rattle.std.proofs.Common.{◌≡◌, ◌≢◌, ℕ, ◌+◌, ◌*◌, ◌<◌, ◌≤◌, ◌⊎◌, List, ◌++◌, length, slice_index, slice_set, arith, refl, sym, ap, ◌∙◌, inl, inr, get_or-set_same, get_or-set_other, get_or-append-add}
+use borrow.Rule.Slice.PartMut.{put_mid, post_of}
+use Rattle.std.proofs.Common.{◌≡◌, ◌≢◌, ℕ, ◌+◌, ◌*◌, ◌<◌, ◌≤◌, ◌⊎◌, List, ◌++◌, length, take, append_assoc, slice_index, slice_set, arith, refl, sym, ap, ◌∙◌, inl, inr, get_or-set_same, get_or-set_other, get_or-append-add}
 use Rattle.std.proofs.Math.Nat.{mul-le-mul_right}
 use Rattle.std.proofs.lemmas.Bool.{cases_eq}
-use Rattle.std.proofs.lemmas.List.{get_or_append_left}
+use Rattle.std.proofs.lemmas.List.{get_or_append_left, take_at}
 use Rattle.ltm_lean_node.specs.Rows.{WritesAt}
 
 pub writes_none : (place : ℕ) (f : ℕ → ℕ) (row : List ℕ) → WritesAt place 0 f row row
@@ -47,3 +48,7 @@ in_first xs ys k l = get_or_append_left xs ys 0 k l
 
 pub in_rest : (xs ys : List ℕ) (k m : ℕ) → k ≡ length xs + m → slice_index (xs ++ ys) k ≡ slice_index ys m
 in_rest xs ys k m e = ap (λ (z : ℕ). slice_index (xs ++ ys) z) e ∙ get_or-append-add xs ys m 0
+
+-- the front of a room, written over as a whole
+pub front_written : (n k : ℕ) (room row rest : List ℕ) → length row ≡ n → take n (put_mid 0 k room row ++ rest) ≡ row
+front_written n k room row rest long = ap (take n) (append_assoc row (post_of 0 k room) rest) ∙ take_at row (post_of 0 k room ++ rest) n long

@@ -16,12 +16,12 @@ pub record WritesAt (place many : ℕ) (f : ℕ → ℕ) (old new : List ℕ) : 
   pub here : (j : ℕ) → j < many → slice_index new (place + j) ≡ f j
   pub others : (x : ℕ) → (x < place) ⊎ (place + many ≤ x) → slice_index new x ≡ slice_index old x
 
--- behind what the arms send and the counts stand what the out-links take, the capacities and the weights
-pub record IsFinished (s : Setting) (u t : ℕ) (shape : NodeShape) (list takes old new : List ℕ) : Type 0 where
-  pub sends : (k : ℕ) → k < counts_begin shape → slice_index new k ≡ slice_index old k
-  pub supply : (j : ℕ) → j < shape.outs → slice_index new (supplies_begin shape + j) ≡ slice_index takes j
-  pub capacity : (i : ℕ) → i < shape.arms → slice_index new (capacities_begin shape + i) ≡ arm_capacity s u t i
-  pub weight : (k j : ℕ) → k < length list → j < shape.outs → slice_index new (weights_begin shape + (k * shape.outs + j)) ≡ s.weight u (slice_index list k) t j
+-- the row is what the arms send, the counts, what the out-links take, the capacities of the arms and the weights
+pub record IsWritten (s : Setting) (u t : ℕ) (shape : NodeShape) (sent takes weights row : List ℕ) : Type 0 where
+  pub sends : (k : ℕ) → k < counts_begin shape → slice_index row k ≡ slice_index sent k
+  pub supply : (j : ℕ) → j < shape.outs → slice_index row (supplies_begin shape + j) ≡ slice_index takes j
+  pub capacity : (i : ℕ) → i < shape.arms → slice_index row (capacities_begin shape + i) ≡ arm_capacity s u t i
+  pub weight : (x : ℕ) → x < shape.destinations * shape.outs → slice_index row (weights_begin shape + x) ≡ slice_index weights x
 
 -- the row begins with what each arm sends of each listed destination
 abbrev pub AreSent : Setting → Counts → ℕ → ℕ → List ℕ → List ℕ → Type 0

@@ -1,12 +1,11 @@
 //! The row of a node for listed destinations, behind what its arms send.
-ghost use Rattle.std.specs.Prelude.{◌≡◌, ℕ, ◌+◌, ◌*◌, ◌<◌, ◌≤◌, length, slice_index};
+ghost use Rattle.std.specs.Prelude.{◌≡◌, ℕ, ◌+◌, ◌*◌, ◌^◌, ◌<◌, ◌≤◌, length, slice_index};
 ghost use Rattle.ltm_loading.specs.Pairs.{arm_capacity};
-ghost use Rattle.ltm_node.specs.Shape.{width};
+ghost use Rattle.ltm_node.specs.Shape.{counts_begin, width};
 ghost use Rattle.ltm_setting.specs.Setting.{setting_of};
 ghost use Rattle.ltm_setting.specs.Places.{IsNode, arms_at};
-ghost use Rattle.ltm_lean_node.specs.Rows.{listed_shape, IsFinished};
+ghost use Rattle.ltm_lean_node.specs.Rows.{listed_shape, IsWritten};
 
-use crate::weights::put_weights;
 use ltm_node::NodeShape;
 use ltm_scenario::Scenario;
 use ltm_setting::{by_turn, capacity, in_links, origin_capacity, out_links};
@@ -57,28 +56,41 @@ fn put_capacities(scenario: &Scenario, pair: Pair, into: &mut [u64])
     }
 }
 
-/// Writes what the out-links of a node take, the capacities of its arms and the weights of listed destinations behind what
-/// its arms send. The counts of the row stay.
-pub(crate) fn finish_row(
+/// Writes numbers as wider ones.
+fn widen(numbers: &[u32], into: &mut [u64])
+    requires { length into.old ≡ length numbers.now }
+    ensures { (x : ℕ) → x < length into.old → slice_index into.new x ≡ slice_index numbers.now x }
+{
+    for x in 0..into.len() {
+        into[x] = u64::from(numbers[x]);
+    }
+}
+
+/// Writes what the arms of a node send, what its out-links take, the capacities of its arms and its weights. The counts
+/// between them are left as they stand.
+pub(crate) fn write_row(
     scenario: &Scenario,
     pair: Pair,
     shape: NodeShape,
-    list: &[u32],
+    sends: &[u64],
     takes: &[u64],
+    weights: &[u32],
     row: &mut [u64],
 )
     requires node { IsNode scenario.now pair.node.0 }
-    requires outs { shape.outs ≡ (setting_of scenario.now).outs pair.node.0 }
-    requires list { shape.destinations ≡ length list.now }
+    requires sends { length sends.now ≡ counts_begin shape }
     requires takes { length takes.now ≡ shape.outs }
+    requires weights { length weights.now ≡ shape.destinations * shape.outs }
     requires width { length row.old ≡ width shape }
-    ensures { IsFinished (setting_of scenario.now) pair.node.0 pair.slot shape list.now takes.now row.old row.new }
+    requires fits { width shape < 2 ^ 63 }
+    ensures { IsWritten (setting_of scenario.now) pair.node.0 pair.slot shape sends.now takes.now weights.now row.new }
 {
-    let (_sends, others) = row.split_at_mut(shape.counts_begin());
+    let (front, others) = row.split_at_mut(shape.counts_begin());
     let (_counts, limits) = others.split_at_mut(shape.counts_width());
     let (supply, rest) = limits.split_at_mut(shape.outs as usize);
-    let (capacities, weights) = rest.split_at_mut(shape.arms as usize);
+    let (capacities, behind) = rest.split_at_mut(shape.arms as usize);
+    front.copy_from_slice(sends);
     supply.copy_from_slice(takes);
     put_capacities(scenario, pair, capacities);
-    put_weights(scenario, pair, shape.outs as usize, list, weights);
+    widen(weights, behind);
 }

@@ -7,4 +7,4 @@ loop-j-init c = writes_none c.args.place (slice_index c.args.numbers.now) c.args
 
 pub loop-j-preserved : goal.loop-j-preserved
 loop-j-preserved c =
-    writes_more c.args.place c.loop-j.j (slice_index c.args.numbers.now) c.args.into.now c.loop-j.into (c.args.place + c.loop-j.j) c.from.result c.loop-j.invariant refl (omega (arith, c.loop-j.auto.into, c.loop-j-test.true, c.requires)) c.from.ensures
+    writes_more c.args.place c.loop-j.j (slice_index c.args.numbers.now) c.args.into.now c.loop-j.into (c.args.place + c.loop-j.j) (slice_index c.args.numbers.now c.loop-j.j) c.loop-j.invariant refl (omega (arith, c.loop-j.auto.into, c.loop-j-test.true, c.requires)) refl
