@@ -8,25 +8,27 @@ use Rattle.ltm_loading.specs.Groups.{down_of}
 use Rattle.ltm_standing.specs.Listed.{HasEntered}
 use Rattle.ltm_used.specs.Lists.{list_of}
 use Rattle.ltm_origin.specs.Waiting.{HasLeft}
+use Rattle.ltm_lean_node.specs.Kept.{AreKept}
 use Rattle.ltm_lean.specs.declared.incoming.Incoming.{Incoming}
 use Rattle.ltm_lean.specs.declared.node.LeanNode.{LeanNode}
 use Rattle.ltm_lean.specs.declared.outgoing.Outgoing.{Outgoing}
 use Rattle.ltm_lean.specs.declared.tables.Tables.{Tables}
-use Rattle.ltm_lean.specs.Nodes.{AreIncoming, AreOutgoing, StandAt, IsNodeAt, StandsAtNode, MovedAtNode}
+use Rattle.ltm_lean.specs.Nodes.{AreIncoming, AreOutgoing, StandAt, IsNodeAt, StandsAtNode, MovedAtNode, SameButWeights}
 
 -- the place of a node in its list
 abbrev IsOwnPlace : Setting → Tables → NodeId → Option ℕ → Type 0
 IsOwnPlace s x n own = (k : ℕ) → k < length (list_of x.nodes n.0) → is_this own k ≡ is_this (s.own n.0) (slice_index (list_of x.nodes n.0) k)
 
 -- it is the same node with the same lists
-pub passed_node : (s : Setting) (x : Tables) (old new : LeanNode) → new.node ≡ old.node → new.own ≡ old.own → length new.gone.items ≡ length old.gone.items
+pub passed_node : (s : Setting) (x : Tables) (old new : LeanNode) → new.node ≡ old.node → new.own ≡ old.own → length new.gone.items ≡ length old.gone.items → new.kept ≡ old.kept
     → AreIncoming s x old.node.0 new.ins.items → AreOutgoing s x old.node.0 new.outs.items → IsNodeAt s x old → IsNodeAt s x new
-passed_node s x old new node own gone ins outs h = record {
+passed_node s x old new node own gone kept ins outs h = record {
   there = subst (λ (q : NodeId). q.0 < s.nodes) (sym node) h.there;
   own_place = subst (λ (q : NodeId). IsOwnPlace s x q new.own) (sym node) (subst (IsOwnPlace s x old.node) (sym own) h.own_place);
   gone_wide = gone ∙ (h.gone_wide ∙ ap (λ (q : NodeId). length (list_of x.nodes q.0)) (sym node));
   incoming = subst (λ (q : NodeId). AreIncoming s x q.0 new.ins.items) (sym node) ins;
   outgoing = subst (λ (q : NodeId). AreOutgoing s x q.0 new.outs.items) (sym node) outs;
+  weights = subst (λ (q : NodeId). AreKept s q.0 (list_of x.nodes q.0) new.kept) (sym node) (subst (AreKept s old.node.0 (list_of x.nodes old.node.0)) (sym kept) h.weights);
 }
 
 pub passed_stands : (s : Setting) (c : Counts) (x : Tables) (k t : ℕ) (n : NodeId) (new : LeanNode) → new.node ≡ n → StandAt s c x n.0 k t new.ins.items → (0 < s.outs n.0 → HasLeft s c n.0 t (list_of x.nodes n.0) new.left new.gone.items)
@@ -35,6 +37,13 @@ passed_stands s c x k t n new node links origin = record {
   links = subst (λ (q : NodeId). StandAt s c x q.0 k t new.ins.items) (sym node) links;
   origin = subst (λ (q : NodeId). 0 < s.outs q.0 → HasLeft s c q.0 t (list_of x.nodes q.0) new.left new.gone.items) (sym node) origin;
 }
+
+-- the same stands at a node whose weights have been looked up anew
+pub renewed_stands : (s : Setting) (c : Counts) (x : Tables) (k t : ℕ) (old new : LeanNode) → SameButWeights old new → StandsAtNode s c x k t old → StandsAtNode s c x k t new
+renewed_stands s c x k t old new same h =
+    let us : List ℕ = list_of x.nodes old.node.0 in
+    passed_stands s c x k t old.node new same.node (subst (StandAt s c x old.node.0 k t) (sym same.ins) h.links)
+    (λ some. subst (λ (q : ℕ). HasLeft s c old.node.0 t us q new.gone.items) (sym same.left) (subst (HasLeft s c old.node.0 t us old.left) (sym same.gone) (h.origin some)))
 
 -- what left the links into a node, and what entered those out of it
 abbrev pub HasLeftLinks : Setting → Counts → ℕ → ℕ → List Incoming → Type 0

@@ -12,6 +12,7 @@ use Rattle.ltm_thin.specs.NodeLists.{IsNodeList, MovesInLoading}
 use Rattle.ltm_totals.specs.Totals.{total_links, total_slots, AreTotals}
 use Rattle.ltm_used.specs.Lists.{links_of, list_of}
 use Rattle.ltm_origin.specs.Waiting.{HasLeft}
+use Rattle.ltm_lean_node.specs.Kept.{AreKept}
 use Rattle.ltm_lean_link.specs.Moved.{HasCome}
 use Rattle.ltm_lean.specs.declared.mail.Mail.{Mail}
 use Rattle.ltm_lean.specs.declared.incoming.Incoming.{Incoming}
@@ -60,13 +61,14 @@ StandAt s c x u k t ins = (i : ℕ) (d : Incoming) → i < s.ins u → Stands c 
 abbrev pub LinksSend : Setting → Counts → Tables → ℕ → ℕ → List ℕ → Type 0
 LinksSend s c x u t row = (i k : ℕ) → i < s.ins u → k < length (list_of x.nodes u) → slice_index row (i * length (list_of x.nodes u) + k) ≡ link_sending s c (s.in_link u i) t (slice_index (list_of x.nodes u) k)
 
--- a node: its number, its place in its list, the links into it and out of it, and what has left its origin
+-- a node: its number, its place in its list, the links into it and out of it, what has left its origin, and its weights
 pub record IsNodeAt (s : Setting) (x : Tables) (n : LeanNode) : Type 0 where
   pub there : n.node.0 < s.nodes
   pub own_place : (k : ℕ) → k < length (list_of x.nodes n.node.0) → is_this n.own k ≡ is_this (s.own n.node.0) (slice_index (list_of x.nodes n.node.0) k)
   pub gone_wide : length n.gone.items ≡ length (list_of x.nodes n.node.0)
   pub incoming : AreIncoming s x n.node.0 n.ins.items
   pub outgoing : AreOutgoing s x n.node.0 n.outs.items
+  pub weights : AreKept s n.node.0 (list_of x.nodes n.node.0) n.kept
 
 -- what stands at a node of these counts
 pub record StandsAtNode (s : Setting) (c : Counts) (x : Tables) (k t : ℕ) (n : LeanNode) : Type 0 where
@@ -93,6 +95,16 @@ pub record IsMoving (s : Setting) (c : Counts) (x : Tables) (u t : ℕ) (o : Out
 pub record SameNode (old new : LeanNode) : Type 0 where
   pub node : new.node ≡ old.node
   pub own : new.own ≡ old.own
+  pub outs : new.outs.items ≡ old.outs.items
+  pub left : new.left ≡ old.left
+  pub gone : new.gone.items ≡ old.gone.items
+  pub kept : new.kept ≡ old.kept
+
+-- the same node, whose weights may have been looked up anew
+pub record SameButWeights (old new : LeanNode) : Type 0 where
+  pub node : new.node ≡ old.node
+  pub own : new.own ≡ old.own
+  pub ins : new.ins.items ≡ old.ins.items
   pub outs : new.outs.items ≡ old.outs.items
   pub left : new.left ≡ old.left
   pub gone : new.gone.items ≡ old.gone.items

@@ -18,6 +18,7 @@ mod origin;
 mod outgoing;
 mod own;
 mod passing;
+mod renewing;
 mod resting;
 mod room;
 mod slot;

@@ -35,6 +35,7 @@ impl LeanNode {
         ensures same_own { self.new.own ≡ self.old.own }
         ensures ins { self.new.ins.items ≡ self.old.ins.items }
         ensures outs { self.new.outs.items ≡ self.old.outs.items }
+        ensures same_kept { self.new.kept ≡ self.old.kept }
         ensures wide { length self.new.gone.items ≡ length self.old.gone.items }
         ensures left { (s : Setting) (x : Tables) (c : Counts) (u t : ℕ) → length self.old.ins.items ≡ s.ins u → length self.old.outs.items ≡ s.outs u
             → 0 < s.outs u → IsMoving s c x u t outputs.now → HasLeft s c u t (list_of x.nodes u) self.old.left self.old.gone.items

@@ -94,14 +94,13 @@ fn shape_at(scenario: &Scenario, tables: &Tables, node: &LeanNode) -> NodeShape
     }
 }
 
-/// One slot of a node, in room that is as wide as its step wants it. The first numbers of the row are what its arms send; where
-/// they send nothing, nothing moves.
+/// One slot of a node, in room that is as wide as its step wants it. The row takes what its arms send; where they send nothing,
+/// nothing moves.
 fn move_node(
     scenario: &Scenario,
     tables: &Tables,
     slot: u32,
     node: &mut LeanNode,
-    sends: usize,
     takes: &mut [u64],
     row: &mut [u64],
     inputs: &mut NodeInputs,
@@ -110,9 +109,8 @@ fn move_node(
     requires slot { IsSlot scenario.now slot }
     requires tables { AreTables (setting_of scenario.now) tables.now }
     requires node { IsNodeAt (setting_of scenario.now) tables.now node.old }
-    requires sends { sends ≡ arms_at scenario.now node.old.node.0 * length (list_of tables.now.nodes node.old.node.0) }
     requires takes { length takes.old ≡ (setting_of scenario.now).outs node.old.node.0 }
-    requires width { length row.old ≡ row_width (setting_of scenario.now) tables.now node.old.node.0 }
+    requires width { length row.old ≡ arms_at scenario.now node.old.node.0 * length (list_of tables.now.nodes node.old.node.0) }
     requires inputs { row_width (setting_of scenario.now) tables.now node.old.node.0 ≤ inputs.old.room }
     requires outputs { step_width (setting_of scenario.now) tables.now node.old.node.0 ≤ outputs.old.room }
     requires frozen { (c : Counts) → IsLoading (setting_of scenario.now) c → IsFrozen (setting_of scenario.now) c slot tables.now }
@@ -130,10 +128,11 @@ fn move_node(
 {
     is_setting(scenario);
     send_all(scenario, tables, slot, node, row)?;
-    if are_zero(&row[..sends]) {
+    if are_zero(row) {
         node.rest();
         return Ok(());
     }
+    node.renew(scenario, tables, slot);
     step_node(scenario, tables, node, slot, takes, row, inputs, outputs);
     node.pass(outputs);
     Ok(())
@@ -172,11 +171,8 @@ fn move_within(
 {
     let shape = shape_at(scenario, tables, node);
     let takes = &mut takes[..shape.outs as usize];
-    let row = &mut row[..shape.width()];
-    let sends = shape.counts_begin();
-    move_node(
-        scenario, tables, slot, node, sends, takes, row, inputs, outputs,
-    )
+    let row = &mut row[..shape.counts_begin()];
+    move_node(scenario, tables, slot, node, takes, row, inputs, outputs)
 }
 
 impl LeanNode {

@@ -26,9 +26,9 @@ step_listed-requires-clause-fits c =
     let s = setting_of c.args.scenario.now in
     let u : ℕ = c.args.node.now.node.0 in
     let has : HasLoading (setting_of c.args.scenario.now) = c.there_is_a_loading.ensures s c.is_setting.ensures.setting in
-    sent_within s has.counts u c.args.slot c.on-list.result.now c.args.row.now
+    sent_within s has.counts u c.args.slot c.on-list.result.now c.args.sends.now
     (subst (IsNodeList s has.counts u) (sym c.on-list.ensures) (c.requires.tables.node_listed has.counts u has.loading c.requires.node.there)) c.requires.slot
-    (subst (λ (xs : List ℕ). AreSent s has.counts u c.args.slot xs c.args.row.now) (sym c.on-list.ensures) (c.requires.sent has.counts has.loading))
+    (subst (λ (xs : List ℕ). AreSent s has.counts u c.args.slot xs c.args.sends.now) (sym c.on-list.ensures) (c.requires.sent has.counts has.loading))
 
 pub returns-clause-moves : goal.returns-clause-moves
 returns-clause-moves c = λ counts load frozen.
@@ -36,7 +36,7 @@ returns-clause-moves c = λ counts load frozen.
     let u : ℕ = c.args.node.now.node.0 in
     subst (λ (xs : List ℕ). MovesInLoading s counts u c.args.slot xs c.step_listed.new.outputs) c.on-list.ensures
     (c.step_listed.ensures.moves counts (subst (IsNodeList s counts u) (sym c.on-list.ensures) (c.requires.tables.node_listed counts u load c.requires.node.there))
-    (subst (λ (xs : List ℕ). AreSent s counts u c.args.slot xs c.args.row.now) (sym c.on-list.ensures) (c.requires.sent counts load)) (c.put_takes.ensures.taken counts frozen))
+    (subst (λ (xs : List ℕ). AreSent s counts u c.args.slot xs c.args.sends.now) (sym c.on-list.ensures) (c.requires.sent counts load)) (c.put_takes.ensures.taken counts frozen))
 
 pub returns-clause-shape : goal.returns-clause-shape
 returns-clause-shape c = c.step_listed.ensures.shape ∙ ap (λ (xs : List ℕ). listed_shape (setting_of c.args.scenario.now) c.args.node.now.node.0 (length xs) c.args.node.now.own) c.on-list.ensures

@@ -10,7 +10,7 @@ returns-clause-node c = λ s x h.
     let ins : c.leave_own.new.self.ins.items ≡ c.leave_links.new.ins =
     c.leave_own.ensures.ins ∙ with_items_is c.args.self.now.ins c.leave_links.new.ins (omega (arith, c.leave_links.auto.ins, c.deref_mut.ensures.len)) in
     let was : c.deref_mut-2.result.now ≡ c.args.self.now.outs.items = c.deref_mut-2.ensures.value ∙ c.leave_own.ensures.outs in
-    passed_node s x c.args.self.now _ c.leave_own.ensures.same_node c.leave_own.ensures.same_own c.leave_own.ensures.wide
+    passed_node s x c.args.self.now _ c.leave_own.ensures.same_node c.leave_own.ensures.same_own c.leave_own.ensures.wide c.leave_own.ensures.same_kept
     (subst (AreIncoming s x u) (sym ins) (c.leave_links.ensures.links s x u (subst (AreIncoming s x u) (sym c.deref_mut.ensures.value) h.incoming)))
     (subst (AreOutgoing s x u) (sym (with_items_is c.leave_own.new.self.outs c.enter_links.new.outs (omega (arith, c.enter_links.auto.outs, c.deref_mut-2.ensures.len))))
     (c.enter_links.ensures.links s x u (subst (AreOutgoing s x u) (sym was) h.outgoing))) h

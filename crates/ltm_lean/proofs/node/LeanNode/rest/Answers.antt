@@ -9,7 +9,7 @@ use Rattle.ltm_lean.proofs.node.LeanNode.rest.Goals as goal
 pub returns-clause-node : goal.returns-clause-node
 returns-clause-node c = λ s x h.
     let u : ℕ = c.args.self.now.node.0 in
-    passed_node s x c.args.self.now _ refl refl refl
+    passed_node s x c.args.self.now _ refl refl refl refl
     (subst (AreIncoming s x u) (sym (with_items_is c.args.self.now.ins c.rest_ins.new.ins (omega (arith, c.rest_ins.auto.ins, c.deref_mut.ensures.len))))
     (c.rest_ins.ensures.links s x u (subst (AreIncoming s x u) (sym c.deref_mut.ensures.value) h.incoming)))
     (subst (AreOutgoing s x u) (sym (with_items_is c.args.self.now.outs c.rest_outs.new.outs (omega (arith, c.rest_outs.auto.outs, c.deref_mut-2.ensures.len))))
