@@ -12,12 +12,14 @@ use crate::incoming::all_incoming;
 use crate::lists::node_list;
 use crate::outgoing::all_outgoing;
 use ltm_lean::{LeanNode, Tables, own_place};
+use ltm_lean_node::NodeWeights;
 use ltm_scenario::Scenario;
-use ltm_setting::{destination_at, node_count};
+use ltm_setting::{destination_at, node_count, out_links};
 use ltm_units::{NoMemory, NodeId};
 use std::alloc::Global;
 
-/// A node before the first slot: nothing stands on any link into it, and nothing has left its origin.
+/// A node before the first slot: nothing stands on any link into it, nothing has left its origin, and its weights have not been
+/// looked up.
 fn node_of(
     alloc: Global,
     scenario: &Scenario,
@@ -36,6 +38,7 @@ fn node_of(
     let ins = all_incoming(alloc, scenario, tables, node)?;
     let outs = all_outgoing(alloc, scenario, tables, node)?;
     let gone = vec![in alloc; 0u32; list.len()].map_err(|_| NoMemory)?;
+    let kept = NodeWeights::none(alloc, list.len() * out_links(scenario, node).len())?;
     Ok(LeanNode {
         node,
         own,
@@ -43,6 +46,7 @@ fn node_of(
         outs,
         left: 0,
         gone,
+        kept,
     })
 }
 

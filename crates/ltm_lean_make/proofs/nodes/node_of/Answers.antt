@@ -1,10 +1,14 @@
-use Rattle.std.proofs.Common.{rules, ◌≡◌, ℕ, ◌<◌, List, Option, length, slice_index, arith, ap, subst, ◌∙◌}
+use Rattle.std.proofs.Common.{rules, ◌≡◌, ℕ, ◌*◌, ◌<◌, List, Option, length, slice_index, arith, ap, subst, ◌∙◌}
 use Rattle.std.proofs.lemmas.List.{get_or-replicate}
+use Rattle.std.proofs.Math.Nat.{mul-le-mul_left}
 use Rattle.ltm_node.specs.Shape.{is_this}
 use Rattle.ltm_setting.specs.Setting.{setting_of}
 use Rattle.ltm_used.specs.Lists.{list_of}
 use Rattle.ltm_lean_make.proofs.First.{left_first}
 use Rattle.ltm_lean_make.proofs.nodes.node_of.Goals as goal
+
+pub overflow_mul-list : goal.overflow_mul-list
+overflow_mul-list c = omega (arith, c.node_list-list.ensures.few, mul-le-mul_left (length c.node_list-list.result.now) c.out_links.ensures.few)
 
 pub returns-clause-node : goal.returns-clause-node
 returns-clause-node c =
@@ -19,6 +23,7 @@ returns-clause-node c =
       gone_wide = (let long : length c.in_ok-gone.gone.items ≡ length c.node_list-list.result.now = search rules in omega (arith, long, ap length c.node_list-list.ensures.list));
       incoming = c.in_ok-ins.ensures.links;
       outgoing = c.in_ok-outs.ensures.links;
+      weights = record { wide = c.in_ok-kept.ensures.wide ∙ (ap (λ (q : ℕ). length c.node_list-list.result.now * q) c.out_links.ensures.count ∙ ap (λ (ds : List ℕ). length ds * s.outs u) c.node_list-list.ensures.list); in_force = λ t l m. absurd (omega (arith, m, c.in_ok-kept.ensures.none)) };
     }
 
 pub returns-clause-stands : goal.returns-clause-stands
