@@ -16,6 +16,7 @@ use Rattle.ltm_totals.specs.declared.totals.Totals.{Totals}
 use Rattle.ltm_totals.specs.Totals.{total_at, AreTotals}
 use Rattle.ltm_used.specs.declared.used.Used.{Used}
 use Rattle.ltm_used.specs.Lists.{links_of, list_of}
+use Rattle.ltm_lean_node.specs.Kept.{AreKept}
 use Rattle.ltm_lean.specs.declared.incoming.Incoming.{Incoming}
 use Rattle.ltm_lean.specs.declared.mail.Mail.{Mail}
 use Rattle.ltm_lean.specs.declared.node.LeanNode.{LeanNode}
@@ -180,6 +181,9 @@ node_published s x y old new links lists same h =
       gone_wide = ap length same.gone ∙ (h.gone_wide ∙ (ap (λ (q : NodeId). length (list_of x.nodes q.0)) (sym same.node) ∙ ap (λ (q : Used). length (list_of q new.node.0)) (sym lists)));
       incoming = incoming_same s x y old.node new.node old.ins.items new.ins.items links lists same.node same.ins h.incoming;
       outgoing = outgoing_same s x y old.node new.node old.outs.items new.outs.items links lists same.node same.long same.outs h.outgoing;
+      weights =
+          subst (λ (q : Used). AreKept s new.node.0 (list_of q new.node.0) new.kept) (sym lists)
+          (subst (λ (q : NodeId). AreKept s q.0 (list_of x.nodes q.0) new.kept) (sym same.node) (subst (AreKept s old.node.0 (list_of x.nodes old.node.0)) (sym same.kept) h.weights));
     }
 
 pub stands_published : (s : Setting) (c : Counts) (x y : Tables) (k t : ℕ) (old new : LeanNode) → y.links ≡ x.links → y.nodes ≡ x.nodes → SameButMails old new → StandsAtNode s c x k t old → StandsAtNode s c y k t new

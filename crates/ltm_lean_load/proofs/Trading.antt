@@ -69,13 +69,14 @@ trade_for_none s mails nodes = record {
 }
 
 -- a node whose links out of it have traded
-pub same_but_mails : (old new : LeanNode) (mails traded : List Mail) → new.node ≡ old.node → new.own ≡ old.own → new.left ≡ old.left → new.gone.items ≡ old.gone.items → new.ins.items ≡ old.ins.items
+pub same_but_mails : (old new : LeanNode) (mails traded : List Mail) → new.node ≡ old.node → new.own ≡ old.own → new.left ≡ old.left → new.gone.items ≡ old.gone.items → new.kept ≡ old.kept → new.ins.items ≡ old.ins.items
     → TradesTo (length old.outs.items) mails traded old.outs.items new.outs.items → SameButMails old new
-same_but_mails old new mails traded node own left gone ins trades = record {
+same_but_mails old new mails traded node own left gone kept ins trades = record {
   node = node;
   own = own;
   left = left;
   gone = gone;
+  kept = kept;
   ins = ins;
   long = trades.long;
   outs = λ j d l. trades.same j d l;

@@ -60,6 +60,7 @@ pub record SameButMails (old new : LeanNode) : Type 0 where
   pub own : new.own ≡ old.own
   pub left : new.left ≡ old.left
   pub gone : new.gone.items ≡ old.gone.items
+  pub kept : new.kept ≡ old.kept
   pub ins : new.ins.items ≡ old.ins.items
   pub long : length new.outs.items ≡ length old.outs.items
   pub outs : (j : ℕ) (d : Outgoing) → j < length old.outs.items → SameOutgoing (slice_index_or old.outs.items j d) (slice_index_or new.outs.items j d)

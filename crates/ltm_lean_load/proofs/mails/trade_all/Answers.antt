@@ -70,7 +70,7 @@ loop-u-preserved c =
     (λ l d m e. ap (λ (n : LeanNode). slice_index_or (mails_out n.outs.items) (s.out_place l) d) was
     ∙ (ap (λ (ys : List Mail). slice_index_or ys (s.out_place l) d) (read_map LeanNode (List Mail) (λ (n : LeanNode). mails_out n.outs.items) c.args.nodes.now u [] r old_inside)
     ∙ ap (λ (q : ℕ). slice_index_or (slice_index_or (map (λ (n : LeanNode). mails_out n.outs.items) c.args.nodes.now) q []) (s.out_place l) d) (sym e)))
-    c.loop-u.invariant (get_or_default c.loop-u.nodes u r y inside) trades (same_but_mails y _ c.loop-u.mails c.trade_mails.new.mails refl refl refl refl refl trades)
+    c.loop-u.invariant (get_or_default c.loop-u.nodes u r y inside) trades (same_but_mails y _ c.loop-u.mails c.trade_mails.new.mails refl refl refl refl refl refl trades)
 
 pub returns : goal.returns
 returns c =
