@@ -233,7 +233,9 @@ def add_route_arguments(group: argparse._ArgumentGroup) -> None:
         ),
     )
     add_yielding_argument(
-        group, ", and turns that are links have no gaps of their own at roundabouts and where the right comes first"
+        group,
+        ranks=True,
+        more=", and turns that are links have no gaps of their own at roundabouts and where the right comes first",
     )
     group.add_argument(
         "--origins",
@@ -252,17 +254,26 @@ def add_route_arguments(group: argparse._ArgumentGroup) -> None:
     )
 
 
-def add_yielding_argument(group: argparse._ArgumentGroup, more: str = "") -> None:
-    """The argument on approaches that yield as a whole; and what else `none` means."""
+YIELDING = {
+    "ranks": (
+        "as with gaps, and turns also wait for the queues of turns that yield themselves and go before them, in traffic"
+        " that is counted as queues let it come"
+    ),
+    "gaps": "an approach lets pass what finds gaps in the counted traffic, and its vehicles wait for these",
+    "none": "vehicles do not yield",
+}
+
+
+def add_yielding_argument(group: argparse._ArgumentGroup, ranks: bool = False, more: str = "") -> None:
+    """The argument on approaches that yield as a whole, by ranks where turns can have these; and what else `none`
+    means."""
+    words = [word for word in YIELDING if ranks or word != "ranks"]
+    told = [f"{word}{' (default)' if word == words[0] else ''}, {YIELDING[word]}" for word in words]
     group.add_argument(
         "--yielding",
-        choices=("gaps", "none"),
-        default="gaps",
-        help=(
-            "how vehicles yield at junctions without lights whose turns are no links: gaps (default), an approach lets"
-            f" pass what finds gaps in the counted traffic, and its vehicles wait for these; none, they do not yield"
-            f"{more}"
-        ),
+        choices=words,
+        default=words[0],
+        help=f"how vehicles yield at junctions without lights whose turns are no links: {'; '.join(told)}{more}",
     )
 
 
@@ -303,11 +314,12 @@ def crossing_options(args: argparse.Namespace) -> CrossingOptions:
         apart=args.apart == "groups",
         saturation=args.saturation,
         permissive=args.permissive or args.gap or GapAcceptance(),
-        yielding=args.yielding == "gaps",
     )
-    if not hasattr(args, "lanes"):
-        return made
-    return replace(made, lanes=args.lanes, origins=args.origins)
+    if not hasattr(
+        args, "lanes"
+    ):  # a source without routes, whose turns have no ranks: gaps are all there is to ask for
+        return replace(made, yielding="none") if args.yielding == "none" else made
+    return replace(made, lanes=args.lanes, origins=args.origins, yielding=args.yielding)
 
 
 def network_options(args: argparse.Namespace) -> dict[str, Any]:

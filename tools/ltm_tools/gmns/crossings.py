@@ -50,7 +50,7 @@ def turn(
     told = read_movements(folder, read)
     held = by_signs(told, network, read.units.jam) | read_signals(folder, told, read)
     found = all_turns(told, network)
-    held = (by_node_control(read, found, held) if asked.yielding else {}) | held
+    held = (by_node_control(read, found, held) if asked.yields else {}) | held
     turns = {pair: replace(one, held=held.get(pair)) for pair, one in found.items()}
     movements = Movements(turns, lanes_of(network, read.units.jam, turns))
     # without a table nobody says that a turn back is forbidden, and nodes stay as they are

@@ -75,7 +75,7 @@ def give_way(
 ) -> list[Yielding]:
     """The approaches that yield but for those of some nodes, whose waits are added to the network."""
     raw, asked = read.network, options.crossings
-    if not asked.yielding or not any(turn.held is not None and turn.held.sign for turn in movements.turns.values()):
+    if not asked.yields or not any(turn.held is not None and turn.held.sign for turn in movements.turns.values()):
         return []
     times = {name: road.time for name, road in raw.roads.items()}
     routes = routes_of(raw, amounts, step, asked.slice_minutes * MINUTE_MS, options)

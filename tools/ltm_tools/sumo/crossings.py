@@ -11,12 +11,13 @@ from ..network.crossings.chosen import Chosen, chosen
 from ..network.crossings.expand import Expanded, Form, cut_as_they_are, expand
 from ..network.crossings.lanes import counted_lanes
 from ..network.crossings.movements import Movements, Pair
+from ..network.crossings.queued import queued_volumes, settled
 from ..network.crossings.told import crossings_told, whole_told
 from ..network.crossings.turn import turns_of
-from ..network.crossings.volumes import turns_counted
-from ..network.crossings.yielding import Yielding, names_of, yields_of
+from ..network.crossings.volumes import Volumes, turns_counted
+from ..network.crossings.yielding import Yielding, names_of, passing, yields_of
 from ..network.steps import longest_step
-from .inputs import Inputs, counted_routes
+from .inputs import Inputs, counted_routes, horizon_ms
 from .movements import movements
 from .options import SumoOptions
 
@@ -43,7 +44,7 @@ def movements_of_net(inputs: Inputs, options: SumoOptions) -> Movements:
         signals=options.signals,
         yellow=options.yellow,
         begin_ms=inputs.begin_ms,
-        by_kind=options.crossings.yielding,
+        by_kind=options.crossings.yields,
     )
 
 
@@ -126,13 +127,22 @@ def lanes_by_counts(
 
 
 def yields_by_counts(inputs: Inputs, picked: Chosen, options: SumoOptions) -> list[Yielding]:
-    """The approaches of junctions without lights whose turns are no links, by the counted traffic."""
+    """The approaches of junctions without lights whose turns are no links, by the counted traffic: as it would drive if
+    nothing held it up, or, where turns have ranks, as queues let it come."""
     found = movements_of_net(inputs, options)
     raw, asked = inputs.net.network, options.crossings
     times = {name: road.time for name, road in raw.roads.items()}
-    routes = counted_routes(inputs, options)
-    volumes = turns_counted(routes, times, asked.slice_minutes * MINUTE_MS, names_of(found))
-    return yields_of(raw, found, volumes, asked.saturation, picked.crossings)
+    routes, slice_ms, names = counted_routes(inputs, options), asked.slice_minutes * MINUTE_MS, names_of(found)
+    ranks, end_ms = asked.yielding == "ranks", horizon_ms(inputs, options)
+
+    def yields(volumes: Volumes) -> list[Yielding]:
+        return yields_of(raw, found, volumes, asked.saturation, picked.crossings, ranks)
+
+    def count(volumes: Volumes) -> Volumes:
+        return queued_volumes(routes, times, slice_ms, names, passing(raw, yields(volumes)), end_ms)
+
+    volumes = turns_counted(routes, times, slice_ms, names)
+    return yields(settled(volumes, count) if ranks else volumes)
 
 
 def net_step(inputs: Inputs, options: SumoOptions) -> int:

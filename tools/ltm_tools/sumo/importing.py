@@ -164,10 +164,10 @@ def read_all(net: StrPath, files: Iterable[StrPath], options: SumoOptions, cutti
     if options.destinations is not None:
         inputs.routes = fewer_ends(inputs, options.destinations)
     raw = inputs.net.network
-    if cutting and (options.crossings.turns != "none" or options.crossings.yielding):
+    if cutting and (options.crossings.turns != "none" or options.crossings.yields):
         counted_routes(inputs, options)  # before edges are cut
     found, picked = choose(inputs, options) if cutting and options.crossings.turns != "none" else (None, Chosen((), ()))
-    yields = give_way(inputs, picked, options) if cutting and options.crossings.yielding else []
+    yields = give_way(inputs, picked, options) if cutting and options.crossings.yields else []
     held = {
         name: ways
         for name, ways in (signal_edges(inputs.net) if options.signals else {}).items()

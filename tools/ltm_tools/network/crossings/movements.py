@@ -54,6 +54,11 @@ class Movement:
         """Its approach and exit."""
         return self.approach, self.exit
 
+    @property
+    def sign(self) -> GapAcceptance | None:
+        """The gap by which it yields at a sign, where it does."""
+        return None if self.held is None else self.held.sign
+
     def through(self, lane: Fraction, saturation: Fraction | None) -> Fraction:
         """What one of its lanes lets through in an hour: as much as the road carries by `lane`, and at a stop line,
         where

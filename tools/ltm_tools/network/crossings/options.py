@@ -56,9 +56,11 @@ class CrossingOptions:
     carries."""
     permissive: GapAcceptance | Fraction = GapAcceptance()
     """How much of its lanes a turn gets where it must yield: by gaps, this one in its green, or a share, 1 for all."""
-    yielding: bool = True
-    """Whether approaches of junctions without lights whose turns are no links let pass what finds gaps, and their
-    vehicles wait for these; in a source without routes, gaps in the traffic on least routes."""
+    yielding: Literal["ranks", "gaps", "none"] = "ranks"
+    """How approaches of junctions without lights yield whose turns are no links. `gaps`: they let pass what finds gaps
+    in the counted traffic, and their vehicles wait for these; `ranks`: these also wait for the queues of turns that
+    yield themselves and go before them; `none`: they do not yield. In a source without routes traffic is that on least
+    routes, and turns have no ranks, so that both words mean gaps."""
     apart: bool = True
     """Whether a node becomes several where its allowed turns fall apart into groups of links; else dead ends do
     alone."""
@@ -67,6 +69,11 @@ class CrossingOptions:
     of its node are links, and elsewhere at the node; or at the node, from which they may take each link."""
     slice_minutes: int = 10
     """The minutes over which traffic with priority is counted."""
+
+    @property
+    def yields(self) -> bool:
+        """Whether approaches yield whose turns are no links."""
+        return self.yielding != "none"
 
     def __post_init__(self) -> None:
         if not 1 <= self.length_m <= MOST_TURN_M:

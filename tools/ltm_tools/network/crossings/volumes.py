@@ -26,6 +26,12 @@ class Volumes:
         departures.add_to(of, later_ms, self.slice_ms)
         self.slices = max(self.slices, (departures.times[-1] + later_ms) // self.slice_ms + 1)
 
+    def count(self, link: str, number: int, units: int) -> None:
+        """Counts vehicles that come to the end of a link in a slice."""
+        of = self.counts.setdefault(link, {})
+        of[number] = of.get(number, 0) + units
+        self.slices = max(self.slices, number + 1)
+
     def flow(self, links: Iterable[str], number: int) -> float:
         """The vehicles a second of some links together in a slice."""
         units = sum(self.counts.get(link, {}).get(number, 0) for link in links)

@@ -1,15 +1,14 @@
 """Approaches of junctions without lights whose turns are no links: what they let pass while they yield, and how long a
 vehicle waits there, by the Highway Capacity Manual.
 
-The turns of an approach share its lanes, each with the capacity of its gaps, so that a lane lets pass
-1 / sum(part / capacity). That is a limit at the end of the link, by slices of time. Below it a loading has no queue,
-but vehicles come at random and wait for gaps: the manual's mean wait at the counted flows, without what a standing
-queue adds, is added to the free-flow time.
+The turns of an approach share its lanes, each with the capacity of its gaps, which queues of turns before it in rank
+may lessen (`ranks`), so that a lane lets pass 1 / sum(part / capacity). That is a limit at the end of the link, by
+slices of time. Below it a loading has no queue, but vehicles come at random and wait for gaps: the manual's mean wait
+at the counted flows, without what a standing queue adds, is added to the free-flow time.
 """
 from __future__ import annotations
 
-import math
-from collections.abc import Iterable, Mapping
+from collections.abc import Iterable, Mapping, Sequence
 from dataclasses import dataclass, replace
 from fractions import Fraction
 
@@ -19,15 +18,12 @@ from ...demand.cycles import Green, Plan
 from ...demand.signal_plans import limits_of_plan
 from ...formats import HOUR_MS, MINUTE_MS, UNITS, counted
 from ..network import Network
-from . import gaps
-from .gaps import LEAST_FACTOR
+from .approach import Approach
 from .movements import Movement, Movements, Pair
+from .ranks import by_ranks
 from .volumes import Volumes
 
 HOUR_S = 3600
-PERIOD_H = 0.25  # of the manual's formula of delay
-SLOWING_S = 5.0
-"""What the manual adds to the wait of who yields, for slowing down and speeding up."""
 MOST_TOLD = 3
 
 
@@ -48,96 +44,72 @@ def names_of(movements: Movements) -> dict[Pair, str]:
 
 
 def yields_of(
-    network: Network, movements: Movements, volumes: Volumes, saturation: Fraction | None, apart: Iterable[str]
+    network: Network,
+    movements: Movements,
+    volumes: Volumes,
+    saturation: Fraction | None,
+    apart: Iterable[str],
+    ranks: bool = False,
 ) -> list[Yielding]:
-    """The approaches with a turn that yields at a sign, but for those of some nodes. `volumes` counts turns by
-    `names_of`; a lane that need not yield lets the saturation through, or what its road carries."""
-    left_out, names = set(apart), names_of(movements)
+    """The approaches with a turn that yields at a sign, but for those of some nodes; by gaps alone, or by the ranks of
+    turns, too. `volumes` counts turns by `names_of`; a lane that need not yield lets the saturation through, or what
+    its road carries."""
+    left_out, every = set(apart), approaches_of(network, movements, volumes, saturation)
+    at: dict[str, list[Approach]] = {}
+    for name, approach in every.items():
+        at.setdefault(network.roads[name].head, []).append(approach)
+    found: dict[str, Yielding] = {}
+    for node, together in at.items():
+        if node not in left_out:
+            found |= {one.approach: one for one in yields_at(together, ranks)}
+    return [found[name] for name in every if name in found]
+
+
+def approaches_of(
+    network: Network, movements: Movements, volumes: Volumes, saturation: Fraction | None
+) -> dict[str, Approach]:
+    """All approaches of a network by their links."""
+    names = names_of(movements)
     turns: dict[str, list[Movement]] = {}
     for movement in movements.turns.values():
         turns.setdefault(movement.approach, []).append(movement)
-    made = []
+    made = {}
     for name, some in turns.items():
-        if network.roads[name].head not in left_out and any(part_that_yields(one) for one in some):
-            lanes = movements.lanes.get(name, 1) or 1
-            lane = network.roads[name].capacity / lanes
-            most = float(lane if saturation is None else min(lane, saturation)) / HOUR_S
-            made.append(yielding(Approach(some, lanes, most, volumes, names)))
+        lanes = movements.lanes.get(name, 1) or 1
+        lane = network.roads[name].capacity / lanes
+        most = float(lane if saturation is None else min(lane, saturation)) / HOUR_S
+        made[name] = Approach(some, lanes, most, volumes, names)
     return made
 
 
-def part_that_yields(movement: Movement) -> float:
-    """The part of a turn's lanes that yields at a sign."""
-    if movement.held is None or movement.held.sign is None:
-        return 0.0
-    return float(sum((green.share for green in movement.held.permitted), Fraction(0)))
+def yields_at(approaches: Sequence[Approach], ranks: bool) -> list[Yielding]:
+    """The approaches of a junction that yield."""
+    yields = [one for one in approaches if one.yields]
+    if not yields:
+        return []
+    numbers = range(yields[0].volumes.slices)
+    if ranks:
+        together = [by_ranks(approaches, number) for number in numbers]
+        return [yielding(one, together) for one in yields]
+    return [yielding(one, [one.by_gaps(number) for number in numbers]) for one in yields]
 
 
-@dataclass(frozen=True)
-class Approach:
-    """The turns of an approach, its lanes, and what a lane lets pass in a second where it need not yield."""
-
-    turns: list[Movement]
-    lanes: int
-    most: float
-    volumes: Volumes
-    names: Mapping[Pair, str]
-
-    def units(self, turn: Movement, number: int) -> int:
-        """The thousandths of vehicles of a turn in a slice."""
-        return self.volumes.counts.get(self.names[turn.pair], {}).get(number, 0)
-
-    def parts(self, number: int) -> list[float]:
-        """The part of each turn in the vehicles of a slice; where there are none, in those of all, or even parts."""
-        counts = [self.units(turn, number) for turn in self.turns]
-        if not sum(counts):
-            counts = [self.volumes.whole(self.names[turn.pair]) for turn in self.turns]
-        whole = sum(counts)
-        return [count / whole if whole else 1 / len(counts) for count in counts]
-
-    def turn_capacity(self, turn: Movement, number: int) -> float:
-        """The vehicles a second of a lane that take a turn."""
-        part = part_that_yields(turn)
-        if turn.held is None or turn.held.sign is None or not part:
-            return self.most
-        against = [self.names[pair] for pair in turn.held.opposing if pair in self.names]
-        found = gaps.capacity(self.volumes.flow(against, number), turn.held.sign)
-        return max(self.most * float(LEAST_FACTOR), (1 - part) * self.most + part * min(self.most, found))
-
-    def lane_capacity(self, number: int) -> float:
-        """The vehicles a second of a lane that its turns share."""
-        return 1 / sum(
-            part / self.turn_capacity(turn, number) for part, turn in zip(self.parts(number), self.turns) if part
-        )
-
-    def wait(self, number: int) -> float:
-        """The mean wait of a vehicle in seconds, beside that in a queue that stands."""
-        flow = self.volumes.flow([self.names[turn.pair] for turn in self.turns], number) / self.lanes
-        capacity = self.lane_capacity(number)
-        yielding = sum(part * part_that_yields(turn) for part, turn in zip(self.parts(number), self.turns))
-        others = (1 - yielding) * mean_wait(
-            flow, self.most
-        )  # the time in which they follow one another, which is no wait
-        return max(0.0, mean_wait(flow, capacity) - others) + SLOWING_S * yielding
-
-
-def mean_wait(flow: float, capacity: float) -> float:
-    """The manual's mean wait in seconds at the head of a lane and behind others who come at random, without the queue
-    that grows while more come than pass; flows are in vehicles a second."""
-    load = flow / capacity
-    root = math.sqrt((load - 1) ** 2 + load / capacity / (450 * PERIOD_H))
-    return 1 / capacity + 900 * PERIOD_H * (load - 1 + root) - 1800 * PERIOD_H * max(0.0, load - 1)
-
-
-def yielding(approach: Approach) -> Yielding:
-    """What an approach lets pass, and how long its vehicles wait in the mean."""
-    numbers = range(approach.volumes.slices)
-    counts = [sum(approach.units(turn, number) for turn in approach.turns) for number in numbers]
-    waits = sum(count * approach.wait(number) for count, number in zip(counts, numbers) if count)
-    capacities = [Fraction(round(approach.lane_capacity(number) * approach.lanes * HOUR_S)) for number in numbers]
+def yielding(approach: Approach, capacities: Sequence[Mapping[Pair, float]]) -> Yielding:
+    """What an approach lets pass, and how long its vehicles wait in the mean; by what a lane lets take each turn, by
+    slice, in vehicles a second."""
+    lane = [approach.lane_capacity(number, of) for number, of in enumerate(capacities)]
+    counts = [sum(approach.units(turn, number) for turn in approach.turns) for number in range(len(lane))]
+    waits = sum(count * approach.wait(number, lane[number]) for number, count in enumerate(counts) if count)
     whole = sum(counts)
     wait_ms = round(1000 * waits / whole) if whole else 0
-    return Yielding(approach.turns[0].approach, tuple(capacities), wait_ms, whole)
+    an_hour = tuple(Fraction(round(one * approach.lanes * HOUR_S)) for one in lane)
+    return Yielding(approach.name, an_hour, wait_ms, whole)
+
+
+def passing(network: Network, yields: Iterable[Yielding]) -> dict[str, Sequence[Fraction]]:
+    """The vehicles an hour that each link lets pass at its end, by slice: one that does not yield, what it carries."""
+    carried = {name: (road.capacity,) for name, road in network.roads.items()}
+    return {**carried, **{one.approach: one.capacities for one in yields}}
 
 
 def add_waits(network: Network, yields: Iterable[Yielding]) -> list[Yielding]:
