@@ -21,7 +21,7 @@ sys.dont_write_bytecode = True
 HERE = Path(__file__).resolve().parent
 sys.path[:0] = [str(HERE), str(HERE.parent / "from_sumo")]
 
-from measure import NETWORKS, carried, net_of  # noqa: E402
+from measure import BY_GAPS, NETWORKS, carried, net_of  # noqa: E402
 from truths import TOOLS, Outcome, Trial, tried  # noqa: E402
 
 from ltm_tools.case import Case, Demand  # noqa: E402
@@ -30,7 +30,7 @@ WHOLE = ("--turns", "none", "--no-yellow", "--saturation", "road", "--entries", 
 CASES: dict[str, tuple[str, float, tuple[str, ...]]] = {  # a network, times its vehicles, words of its import
     "town": ("town", 1, ()),
     "spilled": ("town", 2, WHOLE),
-    "bologna": ("bologna", 1, ()),
+    "bologna": ("bologna", 1, BY_GAPS),
 }
 TRIALS = {
     "a fifth of the links": Trial(),

@@ -125,7 +125,7 @@ def assigned_routes(raw: measure.Raw, net: SumoNet, folder: Path, args: argparse
     """The routes by the shares that `assign` finds for the network as `from-sumo` imports it."""
     routes, program = folder / "routes.rou.xml", ("--program", find_program(args.program))
     case, made = folder / "case", folder / "assigned"
-    words = (*raw.words, "--ends", "node", *args.words.split())
+    words = (*raw.words, *measure.BY_GAPS, "--ends", "node", *args.words.split())
     tool("from-sumo", raw.net, routes, *plans_of(raw), case, *words)
     tool("assign", case, "-o", made, "--iterations", args.iterations, "--processes", args.processes, *program)
     tool("drive", made, routes, "-o", folder / "driven.rou.xml", *program)

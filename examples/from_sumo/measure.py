@@ -42,6 +42,8 @@ RUNS = {
     "no drop": ["--mesosim", CONTROL, *compare.NO_DROP],
     "microscopic": [],
 }
+BY_GAPS = ("--yielding", "gaps")
+"""How Bologna was imported for what other scripts measure, before turns had ranks."""
 MINUTE_MS = 60_000
 
 

@@ -2,7 +2,7 @@
 """Sets better signal plans beside SUMO's tools: `plans.py FOLDER [NETWORK ..]`, of town and bologna, or of others of
 `measure.py`.
 
-Each network is imported with a step and a horizon and no other word, and `ltm-tools signals --optimise` finds better
+Each network is imported with a step, a horizon and `--yielding gaps`, and `ltm-tools signals --optimise` finds better
 plans, with each of the options that --words has. It tells the seconds by the clock that this takes, and the vehicle
 hours of the loading before and after. With --sumo, SUMO then drives the same vehicles mesoscopically, with its drop of
 capacity in queues and without it, with each of --seeds, by the plans as they are, by the better ones, and by those of
@@ -81,7 +81,7 @@ def imported(site: Site) -> None:
     """Imports a network, unless its folder has the case."""
     if not (site.case / "turns.csv").exists():
         files = [*map(str, site.raw.files), str(site.vehicles), str(site.case)]
-        run([sys.executable, LTM_TOOLS, "from-sumo", str(site.raw.net), *files, *site.raw.words])
+        run([sys.executable, LTM_TOOLS, "from-sumo", str(site.raw.net), *files, *site.raw.words, *measure.BY_GAPS])
 
 
 def better(site: Site, number: int, words: Sequence[str], program: str | None) -> tuple[Path, list[str]]:
