@@ -36,14 +36,15 @@ def by_ranks(approaches: Sequence[Approach], number: int) -> dict[Pair, float]:
     through = {
         turn.pair: one.through_gaps(turn, number, lefts if turn.sign == MINOR_GAP else ()) for one, turn in every
     }
-    before = {pair: before_in_rank(turn, turns) for pair, turn in turns.items()}
+    before = {pair: some for pair, turn in turns.items() if (some := before_in_rank(turn, turns))}
     flows = {turn.pair: one.flow([turn.pair], number) for one, turn in every}
-    found = {turn.pair: one.most for one, turn in every}
+    found = {turn.pair: one.turn_capacity(turn, through[turn.pair]) for one, turn in every}
+    behind = [(one, turn) for one, turn in every if turn.pair in before]
     for _ in range(MOST_ROUNDS):
-        last, found = found, {
-            turn.pair: one.turn_capacity(turn, through[turn.pair] * no_queue(before[turn.pair], flows, found))
-            for one, turn in every
-        }
+        last = dict(found)
+        for one, turn in behind:
+            free = no_queue(before[turn.pair], flows, last)
+            found[turn.pair] = one.turn_capacity(turn, through[turn.pair] * free)
         if found == last:
             break
     return found
