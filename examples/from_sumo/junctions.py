@@ -53,7 +53,7 @@ SHARES = {  # of an arm's vehicles, by the arm to which they go
 }
 GAPS = {"right": (6.2, 3.3), "through": (6.5, 4.0), "left": (7.1, 3.5), "T left": (6.4, 3.5), "main left": (4.1, 2.2)}
 ROUND_GAP = (4.35, 2.85)  # the mean of the manual's two values of each
-WORDS = {"ltm": (), "ltm, --turns all": ("--turns", "all")}
+WORDS = {"ltm": (), "ltm, --yielding gaps": ("--yielding", "gaps"), "ltm, --turns all": ("--turns", "all")}
 
 
 @dataclass(frozen=True)
