@@ -1,14 +1,21 @@
 -- A core that looks as before, and one after a batch, for the analysts' machine.
 use mathlib.Core.List.{IsPrefix}
-use Rattle.std.proofs.Common.{◌≡◌, List, [], ◌∷◌, refl, ap, sym, subst, ◌∙◌}
+use Rattle.std.proofs.Common.{◌≡◌, ℕ, ◌+◌, List, [], ◌∷◌, ◌++◌, length, take, Result, Ok, Err, refl, ap, sym, subst, ◌∙◌}
+use Rattle.std.specs.Prelude.{OnOk, MatchResult}
+use Rattle.std.proofs.Math.Seq.{take-append_seam}
 use Rattle.std.proofs.lemmas.List.{append-nil}
 use Rattle.ltm_flows.specs.Shown.{version_of, SameLoading}
 use Rattle.ltm_core.specs.Events.{Stay}
 use Rattle.ltm_flows.specs.declared.loading.Loading.{Loading}
 use Rattle.ltm_scenario.specs.declared.edit.Edit.{Edit}
+use Rattle.ltm_scenario.specs.declared.edit.EditFault.{EditFault}
+use Rattle.ltm_scenario.specs.Data.{ScenarioData}
+use Rattle.ltm_scenario.specs.Edits.{edited_all}
+use Rattle.ltm_report.specs.Answers.{accepted_line}
+use Rattle.ltm_report.specs.EditFaults.{edit_fault_line}
 use Rattle.ltm_core.specs.Answers.{IsNoneClaimed}
 use Rattle.ltm_core.specs.State.{RepairState, now}
-use Rattle.ltm_core.specs.Log.{Log, LogLaws, with_batch, settled_of}
+use Rattle.ltm_core.specs.Log.{Log, LogLaws, with_batch, settled_of, version_now, scenario_now}
 use Rattle.ltm_core.specs.Cores.{CoreData, repair_of, IsNoneOut}
 use Rattle.ltm_core.specs.CoreAnswers.{AcceptsBatch, LooksAs}
 use Rattle.ltm_core.specs.declared.entry.LogEntry.{LogEntry}
@@ -16,6 +23,7 @@ use Rattle.ltm_core.specs.declared.entry.LogEntry.TheVariants.{Accepted}
 use Rattle.ltm_core.specs.Told.{settles_of, told_of}
 use Rattle.ltm_core.specs.Telling.{ListLaws}
 use Rattle.ltm_session.specs.Analysts.{state_of}
+use Rattle.ltm_session.specs.Answers.{EditsAll}
 use Rattle.ltm_session.specs.Ready.{AwaitsLine}
 use Rattle.ltm_session.proofs.Counted.{batch_settles_none, looks_settle_none}
 
@@ -77,3 +85,19 @@ looks_grow old new laws is = subst (λ (l : List LogEntry). IsPrefix (told_of ol
 
 pub batch_grows : (old new : CoreData) (batch : List Edit) → ListLaws → AcceptsBatch old batch new → IsPrefix (told_of old) (told_of new)
 batch_grows old new batch laws is = (Accepted batch ∷ [], sym (laws.batch old new batch is))
+
+-- ---- a batch that is refused
+-- a text that was put behind another is cut off again
+pub cut_back : (old mid new line : List ℕ) (n : ℕ) → n ≡ length old → mid ≡ old ++ line → new ≡ take n mid → new ≡ old
+cut_back old mid new line n long is cut = cut ∙ (ap (take n) is ∙ (ap (λ (k : ℕ). take k (old ++ line)) long ∙ take-append_seam old line))
+
+pub on_ok : {E : Type 0} (r : Result (Unit {0}) E) (P Q : Type 0) → (P → Q) → OnOk r P → OnOk r Q
+on_ok (Ok x) P Q more holds = more holds
+on_ok (Err e) P Q more holds = tt
+
+-- what is told of it is its first fault, and the analysts' machine stays
+pub refused_edits : (old new : CoreData) (batch : List Edit) (fault : EditFault) → LooksAs old new → edited_all (scenario_now old.log) batch ≡ Err fault →
+    EditsAll (state_of old) batch (edit_fault_line fault) (state_of new)
+refused_edits old new batch fault is refused =
+    subst (λ (r : Result ScenarioData EditFault). MatchResult r (λ _. (edit_fault_line fault ≡ accepted_line (version_now old.log + 1)) × (state_of new ≡ record (state_of old) { log = with_batch old.log batch }))
+    (λ f. (edit_fault_line fault ≡ edit_fault_line f) × (state_of new ≡ state_of old))) (sym refused) (refl, looks_state old new is)
