@@ -28,7 +28,6 @@ EXCEPT = {
     "831.96": "the same, microscopic",
     "217.06": "what closing a road of the town costs, which the tutorial prints and a table of ASSIGN begins with",
     "50.007": "two roads of two examples have the same density",
-    "21.27": "by chance a relative gap of a city, and how far a fit is from its counts",
 }
 
 
