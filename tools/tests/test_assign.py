@@ -132,6 +132,12 @@ class ByHand(Hand):
         first = next(Assignment(Case.read(self.folder / "case"), AssignOptions()).run(BUILT))
         self.assertEqual((round(first.look.per_cent, 9), first.exact), (60.0, 60.0))
 
+    def test_where_nothing_flows_and_little_is_lost(self) -> None:
+        """The best link of a node that nobody passes has all of its shares before anybody comes: 15 s more by `slow`
+        are too few for a step that would take all from it by what is lost."""
+        self.found({**HIDDEN, "links": HIDDEN["links"].replace("2000", "350")}, iterations=1)
+        self.assertEqual(self.seconds, [4000, 1600])
+
     def test_a_step_of_nothing(self) -> None:
         """Behind a step into a gridlock one of next to no size from the best shares gives the best hours again."""
         case = {**TWO, "setup": TWO["setup"].replace("400", "800"), "signals": SIGNALS + "fast,0,800,0.25\n"}
@@ -160,6 +166,28 @@ class ByHand(Hand):
         self.assertEqual(
             sorted(one.score for one in (locked, worse, look)), [one.score for one in (look, worse, locked)]
         )
+
+    def test_the_best_of_a_run(self) -> None:
+        """The iteration is kept in which most arrive and, of several, least is lost: not one in which fewer arrive with
+        a smaller gap. A gridlock ends no run, small as its gap may be."""
+        looks = [
+            Look(1000, 0, 0.0, Gap(50.0, 1000.0, 9000.0, 10_000.0)),
+            Look(1000, 150, 0.0, Gap(20.0, 1000.0, 9000.0, 10_000.0)),  # a few have not arrived
+            Look(1000, 900, 0.0, Gap(1.0, 1000.0, 9000.0, 10_000.0)),  # many have not
+            Look(1100, 0, 0.0, Gap(40.0, 1100.0, 9000.0, 10_000.0)),
+            Look(1000, 0, 0.0, Gap(45.0, 1000.0, 9000.0, 10_000.0)),
+        ]
+        looked = Assignment._looked
+
+        def as_told(made: "Assignment", *words: object) -> object:
+            one, traffic = looked(made, *words)  # type: ignore[arg-type]
+            return one._replace(look=looks[one.number]), traffic
+
+        with patch.object(Assignment, "_looked", as_told):
+            made = Assignment(Case.read(self.case(**TWO)), AssignOptions(iterations=4, until=1.0, period_ms=60_000))
+            self.assertEqual([one.number for one in made.run(BUILT)], [0, 1, 2, 3, 4])
+        assert made.best_one is not None
+        self.assertEqual(made.best_one.number, 3)
 
     def test_the_demand_grows(self) -> None:
         """Half of the demand first, more where it is free, half way back where it locks, and all of it in the end."""
@@ -194,6 +222,21 @@ class ByHand(Hand):
             self.assertEqual((len(case.destinations), len(case.links)), (zones, links))
             self.assertAlmostEqual(sum(row.units for row in case.demand) / 1000, vehicles, delta=1)
             check_ways(Net(case))
+
+    def test_made_cities_are_assigned(self) -> None:
+        """At most 40 iterations, and all arrive, with a relative gap of at most 3 %: where the first step leads into a
+        gridlock, and where fastest routes on empty roads lose 29 %."""
+        for name in ("small", "middle"):
+            with self.subTest(name):
+                folder = self.folder / name
+                subprocess.run([EXAMPLES / "assign" / "make.py", name, folder], check=True)
+                made = Assignment(Case.read(folder), AssignOptions(iterations=40, until=3.0))
+                *others, last = made.run(BUILT)
+                self.assertIs(made.best_one, last)
+                self.assertEqual((last.demand, last.look.not_there), (100, 0))
+                self.assertLessEqual(last.look.per_cent, 3.0)
+                self.assertGreater(others[0].look.per_cent, 10.0)
+                self.assertEqual(any(one.demand < 100 for one in others), name == "small")
 
     def test_where_the_exact_gap_is_asked(self) -> None:
         """Of each loading where that is cheap, else of the first and the last, and in networks that are larger still of
