@@ -21,6 +21,10 @@ FORK = {
     "source_links": "source,from,to,link\nin,O,A,in\nin,O,A,in__up\nin,O,A,in__down\nup,A,D,up\ndown,A,D,down\n",
     "source_nodes": "source,node\nO,O_start\nD,D\n",
 }
+SCRIPTS = (
+    *(f"from_sumo/{name}.py" for name in "assigned closed compare junctions make measure methods plans".split()),
+    "assign/make.py",
+)
 # four are at A by 0:29, and a hundred from 0:30 on
 DEPARTS = [6, 7, 8, 9, *(10 + 2 * number for number in range(100))]
 # from s over a short edge `ab`, a road whose first part `bc#0` is short, and a short `de` to f; from x others come to b
@@ -123,8 +127,8 @@ class Drive(SumoTest):
         self.assertIn("1 elements of other kinds left out", self.told)
 
     def test_the_words_of_each_script(self) -> None:
-        """The scripts beside the command that make networks and set loadings beside SUMO."""
-        for name in ("from_sumo/make.py", "from_sumo/compare.py", "assign/make.py"):
+        """The scripts beside the command that make networks, and set loadings and assignments beside SUMO."""
+        for name in SCRIPTS:
             done = subprocess.run([str(EXAMPLES / name), "--help"], capture_output=True, text=True)
             self.assertEqual((done.returncode, done.stderr), (0, ""), name)
 
