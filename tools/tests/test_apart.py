@@ -42,6 +42,11 @@ def allowed(*pairs: Pair) -> Movements:
     return movements_of([Movement(*pair) for pair in pairs], {})
 
 
+def with_more(movements: Movements, *more: Movement) -> Movements:
+    """The same turns, and more of them."""
+    return movements_of([*movements.turns.values(), *more], movements.lanes)
+
+
 class Groups(unittest.TestCase):
     def test_a_link_that_joins_two_groups(self) -> None:
         network = star("ax", "bx", "cx", "xd", "xe", "xf")
@@ -73,6 +78,23 @@ class Groups(unittest.TestCase):
         self.assertEqual(chosen(crossing("we"), turns("we", held=None), (), "none").parted, ())
         self.assertEqual(chosen(crossing("we"), turns("we", held=None), (), ("w",)).parted, ("w",))
 
+    def test_a_turn_back_that_alone_joins_two_roads_is_a_link(self) -> None:
+        """At c those from w may turn back, and those from e may not: so the turns of w are links, and who comes from e
+        goes on to w. Where both may, or neither, or those roads lead on to a third, nothing changes."""
+        network, back = crossing("we"), [Movement("wc", "cw", (0,)), Movement("ec", "ce", (0,))]
+        one, both = (with_more(turns("we", held=None), *some) for some in (back[:1], back))
+        picked = chosen(network, one, (), "signals", joined=True)
+        self.assertEqual((picked.crossings, picked.dead_ends, picked.apart), (("c",), ("e", "w"), ()))
+        made = expand(network, one, picked, form())
+        self.assertEqual(network.roads["ec"].head, network.roads["cw"].tail)
+        self.assertEqual({name for name in network.roads if "__" in name}, {"wc__ce", "wc__cw"})
+        self.assertEqual(made.route(("ec", "cw")), ("ec", "cw"))
+        self.assertEqual((made.route(("wc", "cw")), made.route(("ec", "ce"))), (("wc", "wc__cw", "cw"), None))
+        for allowed_turns, joined in ((one, False), (both, True)):
+            self.assertEqual(chosen(crossing("we"), allowed_turns, (), "signals", joined=joined).crossings, ())
+        three = with_more(turns("nwe", held=None), *back[:1])
+        self.assertEqual(chosen(crossing("nwe"), three, (), "signals", joined=True).crossings, ())
+
     def test_where_trips_end_or_begin_on_both_sides_it_is_a_crossing(self) -> None:
         for ends, begins in (({"c"}, set()), (set(), {"c"})):
             network, movements = crossing("we"), turns("we", held=None)
@@ -95,15 +117,23 @@ class Groups(unittest.TestCase):
 class OfSumo(SumoTest):
     WORDS = ("--turns", "signals", "--step", "5000", "--horizon", "30")
 
-    def leads(self, *words: str) -> list[tuple[str, tuple[str, ...]]]:
+    def leads(self, *words: str, more: str = "") -> list[tuple[str, tuple[str, ...]]]:
         """Where the shares of the nodes at b and w lead, and the links that begin at w."""
-        case = self.made(*self.WORDS, *words, net=NET + WAYS, routes=ROUTES)
+        case = self.made(*self.WORDS, *words, net=NET + WAYS + more, routes=ROUTES)
         rows = {(row.node, tuple(sorted(row.weights))) for row in case.splits or () if row.node[0] in "bw"}
         return sorted(rows)
 
     def test_nobody_turns_back_where_two_roads_meet(self) -> None:
         self.assertEqual(self.leads(), [("b", ("be",)), ("b_2", ("bw",)), ("w", ("wD",)), ("w_start", ("wb",))])
         self.assertIn("3 nodes with a node for each group of links that turns join", self.out)
+
+    def test_nobody_turns_back_where_only_the_others_may(self) -> None:
+        """Those who come from w may turn back at b, and those from e may not."""
+        words = ("--step", "2000", "--apart")
+        found = self.leads(*words, "turns", more=way("wb", "bw"))
+        begin = [("w", ("wD",)), ("w_start", ("wb",))]
+        self.assertEqual(found, [("be_E", ("be",)), ("bw_E", ("bw",)), *begin, ("wb_A", ("wb__be",))])
+        self.assertEqual(self.leads(*words, "groups", more=way("wb", "bw"))[0], ("b", ("be", "bw")))
 
     def test_the_word_for_the_import_of_before(self) -> None:
         # at b half of those who come from e turn back, and those who begin on wb would go in a loop, which is cut

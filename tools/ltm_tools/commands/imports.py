@@ -174,12 +174,13 @@ def add_crossing_arguments(parser: argparse.ArgumentParser) -> argparse._Argumen
     )
     group.add_argument(
         "--apart",
-        choices=("groups", "ends"),
+        choices=("groups", "turns", "ends"),
         default="groups",
         help=(
             "which nodes become several, so that nobody turns back where no turn leads back: groups (default), each "
-            "whose allowed turns fall apart into groups of links that do not meet, one node for each group; ends, dead "
-            "ends alone"
+            "whose allowed turns fall apart into groups of links that do not meet, one node for each group; turns, "
+            "the same, and where only a turn back joins the groups of a node, and another turn back is forbidden, its "
+            "turns become links; ends, dead ends alone"
         ),
     )
     group.add_argument(
@@ -311,7 +312,8 @@ def crossing_options(args: argparse.Namespace) -> CrossingOptions:
     made = CrossingOptions(
         turns=args.turns if args.turns in words else names,
         length_m=args.turn_length,
-        apart=args.apart == "groups",
+        apart=args.apart != "ends",
+        joined=args.apart == "turns",
         saturation=args.saturation,
         permissive=args.permissive or args.gap or GapAcceptance(),
     )

@@ -54,7 +54,8 @@ def turn(
     turns = {pair: replace(one, held=held.get(pair)) for pair, one in found.items()}
     movements = Movements(turns, lanes_of(network, read.units.jam, turns))
     # without a table nobody says that a turn back is forbidden, and nodes stay as they are
-    wanted = chosen(network, movements, ends, asked.turns, begins=begins, apart=asked.apart and bool(told.turns))
+    is_apart = asked.apart and bool(told.turns)
+    wanted = chosen(network, movements, ends, asked.turns, begins=begins, apart=is_apart, joined=asked.joined)
     step = options.fit or options.step or min(longest_step(network), MINUTE_MS)
     picked = wanted if options.fit else cut_as_they_are(network, wanted, step)
     read.notes += whole_told(len(wanted.crossings) - len(picked.crossings))

@@ -55,7 +55,7 @@ def choose(inputs: Inputs, options: SumoOptions) -> tuple[Movements, Chosen]:
     found = movements_of_net(inputs, options)
     asked = options.crossings
     begins, ends = route_begins(inputs, options), route_ends(inputs)
-    wanted = chosen(raw, found, ends, asked.turns, begins=begins, apart=asked.apart)
+    wanted = chosen(raw, found, ends, asked.turns, begins=begins, apart=asked.apart, joined=asked.joined)
     picked = wanted if options.fit else cut_as_they_are(raw, wanted, net_step(inputs, options))
     inputs.notes += whole_told(len(wanted.crossings) - len(picked.crossings))
     return found, picked

@@ -37,9 +37,11 @@ def chosen(
     *,
     begins: Collection[str] = (),
     apart: bool = True,
+    joined: bool = False,
 ) -> Chosen:
     """The nodes that are asked for: by a word of the options, or by their names. `ends` are those where trips end, by
-    any link, `begins` those where they begin on any; without `apart` no nodes part but dead ends."""
+    any link, `begins` those where they begin on any; without `apart` no nodes part but dead ends. With `joined` those
+    are crossings too where a turn back alone joins groups of links."""
     if asked == "none":
         return Chosen((), ())
     view = View(network, movements, ends, begins)
@@ -51,6 +53,8 @@ def chosen(
         if view.is_dead_end(node):
             dead_ends.append(node)
         elif view.is_wanted(node, asked == "all") or falls and view.is_open(node):
+            crossings.append(node)
+        elif joined and view.is_joined(node):
             crossings.append(node)
         if falls and not view.is_open(node) and not view.is_dead_end(node):
             fallen.append(node)
@@ -100,6 +104,20 @@ class View:
         several = (sum(bool(group.ins) for group in groups) > 1, sum(bool(group.outs) for group in groups) > 1)
         return several[0] and node in self.ends or several[1] and node in self.begins
 
+    def is_joined(self, node: str) -> bool:
+        """Whether a turn back alone joins groups of the links of a node, and another turn back is forbidden: nobody
+        is kept from that one but by turns that are links."""
+        ins, outs = self.network.ins[node], self.network.outs[node]
+        back = {(name, after) for name in ins for after in outs if self.is_back(name, after)}
+        if not back & self.turns.keys() or back <= self.turns.keys():
+            return False
+        onward = {(name, after) for name in ins for after in outs if (name, after) in self.turns} - back
+        return len(groups_of(self.network, onward, node)) > 1
+
+    def is_back(self, name: str, after: str) -> bool:
+        """Whether a link leads to where another comes from."""
+        return self.network.roads[after].head == self.network.roads[name].tail
+
     def is_wanted(self, node: str, every: bool) -> bool:
         """Whether a node is a crossing with several ways, held by a signal where not every one is wanted, or one where
         a turn is forbidden."""
@@ -112,9 +130,8 @@ class View:
 
     def forbids(self, node: str) -> bool:
         """Whether a turn is forbidden at a node, other than back to where a link comes from."""
-        roads = self.network.roads
         return self.has_turns(node) and any(
-            (name, after) not in self.turns and roads[after].head != roads[name].tail
+            (name, after) not in self.turns and not self.is_back(name, after)
             for name in self.network.ins[node]
             for after in self.network.outs[node]
         )

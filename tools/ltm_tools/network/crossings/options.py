@@ -64,6 +64,8 @@ class CrossingOptions:
     apart: bool = True
     """Whether a node becomes several where its allowed turns fall apart into groups of links; else dead ends do
     alone."""
+    joined: bool = False
+    """Whether turns become links where a turn back alone joins these groups, and another turn back is forbidden."""
     origins: Literal["edge", "turns", "node"] = "edge"
     """Whether trips begin on the link with which their route does, as far as it is long enough; on it where the turns
     of its node are links, and elsewhere at the node; or at the node, from which they may take each link."""
