@@ -12,7 +12,7 @@ from __future__ import annotations
 import argparse
 import csv
 import sys
-from collections.abc import Iterable, Iterator
+from collections.abc import Iterable, Iterator, Sequence
 from pathlib import Path
 from typing import NamedTuple
 
@@ -34,7 +34,7 @@ from ltm_tools.assign.rerouting import Base  # noqa: E402
 from ltm_tools.assign.spread import costs  # noqa: E402
 from ltm_tools.case import Case  # noqa: E402
 from ltm_tools.commands.arguments import add_program_argument, clock  # noqa: E402
-from ltm_tools.listing import HOURS  # noqa: E402
+from ltm_tools.listing import time_unit  # noqa: E402
 
 
 KEPT = ("road", "first", "end", "informed", "spent", "not_there", "alone")
@@ -100,6 +100,13 @@ def gains(roads: Iterable[str], found: Iterable[list[Cost]]) -> Iterator[Gain]:
         yield from (Gain(road, words[one.informed], one.alone - one.spent) for one in answers if one.spent < one.alone)
 
 
+def told(roads: int, saving: Sequence[Gain]) -> Iterator[str]:
+    """How many answers there are, and those that save time: in vehicle seconds, if that is little."""
+    yield f"{roads * len(WORDS)} answers of {counted(roads, 'road')}, of which {len(saving)} save time by themselves"
+    unit = time_unit(*(gain.saved for gain in saving))
+    yield from (f"{gain.road}, {gain.response}: {unit.show(gain.saved)} {unit.name}" for gain in saving)
+
+
 def main() -> int:
     parser = argparse.ArgumentParser(description=__doc__, formatter_class=argparse.RawDescriptionHelpFormatter)
     parser.add_argument("case")
@@ -119,10 +126,7 @@ def main() -> int:
     except Fault as fault:
         print(f"gains.py: {fault}", file=sys.stderr)
         return 1
-    whole = f"{len(roads) * len(WORDS)} answers of {counted(len(roads), 'road')}"
-    print(f"{whole}, of which {len(saving)} save time by themselves")
-    for gain in saving:
-        print(f"{gain.road}, {gain.response}: {HOURS.show(gain.saved)} vehicle hours")
+    print(*told(len(roads), saving), sep="\n")
     return 0
 
 

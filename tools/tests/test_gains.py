@@ -29,6 +29,14 @@ class Gains(FolderTest):
         answers = [Cost(NOBODY, 1200, 0, 0.0, 0, 1000), Cost(HALF, 990, 0, 0.0, 1, 970), Cost(ALL, 965, 0, 0.0, 1, 970)]
         self.assertEqual(list(script().gains(["x"], [answers])), [("x", "all", 5)])
 
+    def test_what_is_told(self) -> None:
+        """Little time is told in vehicle seconds, and is not 0.00 hours."""
+        little, much = (script().Gain("x", "all", saved) for saved in (970_000, 36 * 10**9))
+        first = "8 answers of 2 roads, of which 1 save time by themselves"
+        self.assertEqual([*script().told(2, [little])], [first, "x, all: 0.97 vehicle seconds"])
+        self.assertEqual([*script().told(2, [much])], [first, "x, all: 10.00 vehicle hours"])
+        self.assertEqual([*script().told(2, [])], [first.replace("1", "0")])
+
     def test_answers_that_are_kept_are_read_again(self) -> None:
         """Those of two roads, one after another; a file of another closure is refused."""
         path, answers = self.folder / "kept.csv", {}
