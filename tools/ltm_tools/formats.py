@@ -52,13 +52,16 @@ MOST_JAM_PER_KM = 10_000
 # the network and its tables
 MOST_LINKS = 4_000  # of a case whose setup has no column `links`
 MOST_LINKS_ASKED = 16_000  # in that column, and so on below
+MOST_LINKS_NO_HISTORY = 40_000  # in that column, with 0 in the column `history`, and so on below
 MOST_OUT = 4  # links out of a node
 MOST_IN = 4  # links into a node
 MOST_DESTINATIONS = 64  # of a case whose setup has no column `destinations`
 MOST_DESTINATIONS_ASKED = 256
+MOST_DESTINATIONS_NO_HISTORY = 2_000
 MOST_DEMAND_ROWS = 10_000  # of a case whose setup has no column `rows`
 MOST_SPLIT_ROWS = 50_000  # of such a case too
 MOST_ROWS_ASKED = 500_000  # of either
+MOST_ROWS_NO_HISTORY = 8_000_000
 MOST_WEIGHTS = 4  # of a split row
 MOST_CELLS = 54_000_000  # of a case whose setup has no column `cells`
 MOST_CELLS_ASKED = 4_294_967_295
@@ -74,7 +77,7 @@ MOST_EDITORS = 8
 # the files of a case, in the order in which they are read: the fields of each header
 SETUP = ("step_ms", "slots", "origin_capacity")
 # may stand behind these three, each or not, in this order
-SETUP_MORE = ("signals", "limits", "cells", "rows", "links", "destinations", "moves", "carry")
+SETUP_MORE = ("signals", "limits", "cells", "rows", "links", "destinations", "moves", "carry", "history")
 LINKS = ("link", "from", "to", "length_m", "free_kmh", "wave_kmh", "jam_per_km")
 DEMAND = ("origin", "destination", "from_slot", "to_slot", "vehicles")
 SPLITS = ("node", "destination", "from_slot", "weights")

@@ -3,9 +3,11 @@ words.
 
 `data/faults/cases.json` has for each case the files in which it differs from `data/delay/base`, bytes as Latin-1 and
 null where a file is missing, and by command the status and the line of an engine that was written without this one;
-`sizes.json` has those with the columns `rows`, `links`, `destinations` and `moves`.
+`sizes.json` has those with the columns `rows`, `links`, `destinations` and `moves`. Those of `history.json`, with the
+column `history`, were worked out by hand after docs/FORMATS.md.
 """
 import json
+import random
 import subprocess
 import unittest
 from pathlib import Path
@@ -21,7 +23,8 @@ from ltm_tools.formats import MOST_FILE_BYTES, SETUP, SETUP_MORE, headers_of
 DATA = Path(__file__).resolve().parent / "data"
 BASE = DATA / "delay" / "base"
 SIZES = json.loads((DATA / "faults" / "sizes.json").read_text())
-TOLD = json.loads((DATA / "faults" / "cases.json").read_text()) | SIZES
+HISTORY = json.loads((DATA / "faults" / "history.json").read_text())
+TOLD = json.loads((DATA / "faults" / "cases.json").read_text()) | SIZES | HISTORY
 FILES = ("setup", "links", "demand", "splits", "signals", "limits")
 
 
@@ -46,7 +49,7 @@ class ColumnsTest(FolderTest):
 
 class Faults(ColumnsTest):
     def test_each(self) -> None:
-        """103 of the cases are refused by `load`, 56 by `routes`."""
+        """149 of the cases are refused by `load`, 101 by `routes`."""
         refused = 0
         for name, told in TOLD.items():
             self.made(told["files"])
@@ -58,7 +61,7 @@ class Faults(ColumnsTest):
                     with self.subTest(name, word=word):
                         self.assertEqual((3 if isinstance(fault, NoFile) else 6 if fault else 0), status, fault)
                         self.assertEqual(fault.line() if isinstance(fault, BadCase) else None, line or None)
-        self.assertEqual(refused, 159)
+        self.assertEqual(refused, 250)
 
     def test_each_is_explained(self) -> None:
         for name, told in TOLD.items():
@@ -71,11 +74,31 @@ class Faults(ColumnsTest):
 
     @needs_program
     def test_the_program_tells_these(self) -> None:
-        self.tells({name: told for name, told in TOLD.items() if name not in SIZES})
+        self.tells({name: told for name, told in TOLD.items() if name not in SIZES and name not in HISTORY})
 
     @needs_program
     def test_the_program_tells_these_of_sizes(self) -> None:
         self.tells(SIZES)
+
+    @needs_program
+    def test_the_program_tells_these_of_history(self) -> None:
+        self.tells(HISTORY)
+
+    @needs_program
+    def test_setups_made_at_random(self) -> None:
+        """The second reader and the program agree on 300 setups whose fields lie at and about their limits."""
+        pick, seen = random.Random(74), set()
+        for number in range(300):
+            self.made({"setup": setup_at_random(pick), "signals": None, "limits": None})
+            for word in ("load", "routes"):
+                run = subprocess.run([BUILT, word], cwd=self.folder, capture_output=True, text=True)
+                fault = self.fault(word)
+                line = fault.line() + "\n" if isinstance(fault, (BadCase, TooLong)) else ""
+                told = 3 if isinstance(fault, NoFile) else 7 if isinstance(fault, TooLong) else 6 if fault else 0
+                with self.subTest((self.folder / "setup.csv").read_text("latin-1"), word=word):
+                    self.assertEqual((run.returncode, run.stdout if run.returncode else ""), (told, line))
+                seen.add((run.returncode, line))
+        self.assertGreater(len(seen), 12)
 
     def tells(self, cases: dict[str, Any]) -> None:
         """The program's status for each of these, and its line where it refuses."""
@@ -90,11 +113,29 @@ class Faults(ColumnsTest):
                             self.assertEqual(run.stdout.strip(), told[word][1])
 
 
+def setup_at_random(pick: random.Random) -> str:
+    """A setup with some of the columns, in order but for one in ten, most of whose fields are near a limit."""
+    near = {
+        "cells": (1, 1479, 1480, 4_294_967_295),
+        "rows": (3, 5, 6, 500_000, 8_000_000),
+        "links": (3, 4, 16_000, 40_000),
+        "destinations": (1, 2, 256, 2_000),
+    }
+    columns = [column for column in SETUP_MORE if pick.random() < 0.5]
+    if pick.random() < 0.1:
+        pick.shuffle(columns)
+    fields = []
+    for column in columns:
+        number = pick.choice(near[column]) + pick.choice((0, 0, 1)) if column in near else pick.choice((0, 0, 1, 1, 2))
+        fields.append(pick.choice(("", "x", "-1", f"0{number}")) if pick.random() < 0.03 else str(number))
+    return f"{','.join((*SETUP, *columns))}\n{','.join(('1000', '12', '1', *fields))}\n"
+
+
 class Columns(ColumnsTest):
     def test_headers(self) -> None:
-        """Of eight columns each or not, in order: 256 headers."""
+        """Of nine columns each or not, in order: 512 headers."""
         more = [header[len(SETUP) :] for header in headers_of("setup")]
-        self.assertEqual((len(more), len(set(more))), (256, 256))
+        self.assertEqual((len(more), len(set(more))), (512, 512))
         self.assertTrue(
             {
                 (),
@@ -103,6 +144,7 @@ class Columns(ColumnsTest):
                 ("cells", "rows"),
                 ("rows", "moves"),
                 ("moves", "carry"),
+                ("carry", "history"),
                 ("signals", "links", "destinations"),
                 SETUP_MORE,
             }
@@ -148,8 +190,9 @@ class Columns(ColumnsTest):
                 setup.most_destinations,
                 setup.moves,
                 setup.carry,
+                setup.history,
             ),
-            (54_000_000, 10_000, 50_000, 4_000, 64, False, False),
+            (54_000_000, 10_000, 50_000, 4_000, 64, False, False, True),
         )
         setup = Case.read(self.made(SIZES["sizes-signals-limits-cells-rows-links-destinations-moves"]["files"])).setup
         self.assertEqual(
@@ -168,10 +211,13 @@ class Columns(ColumnsTest):
 
     def test_they_are_written(self) -> None:
         """Each column that a setup has is written, and read again; one that it does not have is not written."""
-        header = "step_ms,slots,origin_capacity,rows,links,destinations,moves,carry\n"
-        for values in ("500000,16000,256,1,0", "3,4,2,0,1", "3,4,2,0,0"):
+        header = "step_ms,slots,origin_capacity,rows,links,destinations,moves,carry,history\n"
+        for values in ("500000,16000,256,1,0,1", "8000000,40000,2000,0,0,0", "3,4,2,0,1,0", "3,4,2,0,0,1"):
             case = Case.read(self.made({"setup": f"{header}1000,12,1,{values}\n", "splits": None}))
-            self.assertEqual((case.setup.moves, case.setup.carry), (values[-3] == "1", values[-1] == "1"))
+            self.assertEqual(
+                (case.setup.moves, case.setup.carry, case.setup.history),
+                (values[-5] == "1", values[-3] == "1", values[-1] == "1"),
+            )
             case.write(self.folder / "again")
             self.assertEqual(Case.read(self.folder / "again"), case)
         text = (self.folder / "again" / "setup.csv").read_text()
@@ -187,6 +233,13 @@ class Columns(ColumnsTest):
             fault = self.fault("routes")
             self.assertEqual(fault and fault.line(), "bad case links row 2 CapacityOver" if carry else None)
 
+    def test_any_number_of_cells_without_history(self) -> None:
+        setup = "step_ms,slots,origin_capacity,cells,history\n1000,12,1,1479,{}\n"
+        for history, line in (("0", None), ("1", "bad case whole row 0 CellsOver 1480")):
+            self.made({"setup": setup.format(history), "signals": None, "limits": None})
+            fault = self.fault("load")
+            self.assertEqual(fault and fault.line(), line)
+
     def test_carry_is_0_or_1(self) -> None:
         for values, place in (("2,2", 4), ("1,2", 5)):
             self.made({"setup": f"step_ms,slots,origin_capacity,moves,carry\n1000,12,1,{values}\n"})
@@ -197,7 +250,7 @@ class Columns(ColumnsTest):
         for name, parts in {
             "head-bad-limits-signals": [
                 "exactly step_ms,slots,origin_capacity, and behind it each of signals, limits,"
-                " cells, rows, links, destinations, moves, carry or not, in this order"
+                " cells, rows, links, destinations, moves, carry, history or not, in this order"
             ],
             "head-limits-limits-2": ['limits "2"', "1 where there is a limits.csv"],
             "head-signals-limits-cells-cells-0": ['cells "0"', "1 to 4,294,967,295"],
@@ -207,7 +260,17 @@ class Columns(ColumnsTest):
                 "1 to 500,000",
                 "without this column it is 10,000 for demand and 50,000 for splits",
             ],
-            "sizes-links-16001": ['links "16001"', "1 to 16,000", "without this column it is 4,000"],
+            "sizes-links-16001": [
+                'links "16001"',
+                "1 to 16,000, and with 0 in the column history up to 40,000",
+                "without this column it is 4,000",
+            ],
+            "history-links-history-40001-0": ['links "40001"', "up to 40,000"],
+            "history-history-2": ['history "2"', "it is 0 where a loading keeps no history, and else 1"],
+            "history-links-history-3-0": [
+                "there are 3 links already",
+                "write up to 40000 in the column links of setup.csv; or take a part",
+            ],
             "sizes-destinations-257": ['destinations "257"', "1 to 256", "without this column it is 64"],
             "sizes-moves-2": ['moves "2"', "1 where what moves is floored for each turn"],
             "rows-rows-2": [

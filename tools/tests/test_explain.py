@@ -68,7 +68,7 @@ CASES: dict[str, tuple[dict[str, str], int, str, list[str]]] = {
         "bad case setup row 1 Header",
         [
             "exactly step_ms,slots,origin_capacity, and behind it each of signals, limits, cells, rows,"
-            " links, destinations, moves, carry or not, in this order",
+            " links, destinations, moves, carry, history or not, in this order",
             '"step,slots"',
         ],
     ),
@@ -647,12 +647,39 @@ class Words(FolderTest):
         ):
             self.assertEqual(explain(str(self.case()), 2, "", words), [], words)
 
+    def test_no_history(self) -> None:
+        setup_0 = "step_ms,slots,origin_capacity,{}history\n1000,4,1,{}0\n"
+        case = str(self.case(setup=setup_0.format("", "")))
+        self.assertEqual(
+            explain(case, 14, "no history", ["session", "0"]),
+            [
+                "setup.csv, history 0: session needs the history of a loading, and this case keeps none; load, delay,"
+                " gap, totals and routes answer",
+                "    it is small enough for one: take the column history out of setup.csv",
+            ],
+        )
+        self.assertEqual(explain(case, 14, "loading yes", ["check"]), [])
+        self.assertEqual(explain(str(self.case()), 14, "no history", ["check"]), [])
+        # 256 destinations and one: more than a case with a history may have
+        rows = [f"n1,n{end},0,a=1\n" for end in range(3, 259)]
+        rows += [f"n{node},n{end},0,c{node - 2}=1\n" for end in range(3, 259) for node in range(2, end)]
+        files = {"setup": setup_0.format("destinations,", "300,"), **star(256), "splits": ROAD["splits"] + "".join(rows)}
+        self.assertEqual(
+            explain(str(self.case(**files)), 14, "no history", ["curves"])[1],
+            "    it is too large for one, with 257 destinations (at most 256): gather zones into fewer, take a longer"
+            " step or a shorter horizon, or take a smaller area",
+        )
+
     def test_faults_of_the_outside(self) -> None:
         self.assertIn("input failed", explain(str(self.case()), 4, "")[0])
         self.assertIn("output failed", explain(str(self.case()), 5, "")[0])
         # widths 7 and 4, so 4 * 11, then 2 * 5 * (2 + 2 + 1) counts and 2 * 4 limits
         self.assertIn("the case has 102 cells", explain(str(self.case()), 9, "")[0])
         self.assertEqual(explain(str(self.case()), 0, ""), [])
+        case = self.case(setup="step_ms,slots,origin_capacity,history\n1000,4,1,0\n")
+        self.assertEqual(
+            explain(str(case), 9, "")[0], "memory was not found, though the case keeps no history of its loading"
+        )
 
 
 if __name__ == "__main__":

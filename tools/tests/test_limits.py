@@ -27,15 +27,15 @@ class Limits(FolderTest):
         self.assertEqual(limits.faults(self.folder), [])
 
     def test_one_that_differs(self) -> None:
-        self.change(limits.FORMATS, "MOST_LINKS_ASKED = 16_000", "MOST_LINKS_ASKED = 32_000")
+        self.change(limits.FORMATS, "MOST_LINKS_NO_HISTORY = 40_000", "MOST_LINKS_NO_HISTORY = 32_000")
         line = next(
             number
             for number, text in enumerate((self.folder / limits.FORMATS).read_text().splitlines(), 1)
-            if "LINKS_ASKED" in text
+            if "LINKS_NO_HISTORY" in text
         )
         self.assertEqual(
             limits.faults(self.folder),
-            [f"most_links is 16000 in {limits.BOUNDS}, and 32000 in {limits.FORMATS} line {line}"],
+            [f"most_links is 40000 in {limits.BOUNDS}, and 32000 in {limits.FORMATS} line {line}"],
         )
         self.change("crates/ltm_session/src/script.rt", "LONGEST_LINE: u32 = 65_536", "LONGEST_LINE: u32 = 65_537")
         self.assertIn(
@@ -44,13 +44,13 @@ class Limits(FolderTest):
         )
 
     def test_what_follows_from_one(self) -> None:
-        self.change(limits.BOUNDS, "most_nodes = 32000", "most_nodes = 32001")
-        self.assertEqual(limits.faults(self.folder), ["most_nodes is 32001, and 2 * most_links is 32000"])
+        self.change(limits.BOUNDS, "most_nodes = 80000", "most_nodes = 80001")
+        self.assertEqual(limits.faults(self.folder), ["most_nodes is 80001, and 2 * most_links is 80000"])
         self.assertIn("  most_nodes, which is 2 * most_links", limits.told_of(CLONE, "most_links"))
 
     def test_what_is_not_listed(self) -> None:
         self.change(
-            limits.BOUNDS, "most_links = 16000", "most_links = 16000\n\nabbrev pub most_lanes : N\nmost_lanes = 9"
+            limits.BOUNDS, "most_links = 40000", "most_links = 40000\n\nabbrev pub most_lanes : N\nmost_lanes = 9"
         )
         self.change(
             "crates/ltm_scenario/src/batch.rt", "const MOST_EDITS", "const MOST_SHIFTS: u8 = 7;\nconst MOST_EDITS"

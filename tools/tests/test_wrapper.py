@@ -150,6 +150,20 @@ class Proved(Clone):
         self.case(links="link\n", splits="")
         self.assertIn("ltm: links.csv, line 1: the header", self.run_ltm("case", "load").stderr)
 
+    def test_a_case_without_history(self) -> None:
+        self.case(setup="step_ms,slots,origin_capacity,history\n1000,4,1,0\n")
+        self.build("echo no history; exit 14")
+        told = "ltm: setup.csv, history 0: curves needs the history of a loading"
+        done = self.run_ltm("case", "curves")
+        self.assertEqual((done.returncode, done.stdout), (14, "no history\n"))
+        self.assertIn(told, done.stderr)
+        self.assertIn(told.replace("curves", "session"), self.run_ltm("case", "session", "0").stderr)
+        self.rt(ANSWERS, "echo no history;" + ENDED.format(14))
+        self.built.unlink()
+        done = self.run_ltm("case", "curves")
+        self.assertEqual((done.returncode, done.stdout), (14, "no history\n"))
+        self.assertIn(told, done.stderr)
+
     def test_a_script_in_a_file(self) -> None:
         self.build("cat >/dev/null")
         (self.folder / "script").write_text(

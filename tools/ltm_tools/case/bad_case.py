@@ -14,11 +14,14 @@ from ..formats import (
     MOST_DEMAND_ROWS,
     MOST_DESTINATIONS,
     MOST_DESTINATIONS_ASKED,
+    MOST_DESTINATIONS_NO_HISTORY,
     MOST_IN,
     MOST_LINKS,
     MOST_LINKS_ASKED,
+    MOST_LINKS_NO_HISTORY,
     MOST_OUT,
     MOST_ROWS_ASKED,
+    MOST_ROWS_NO_HISTORY,
     MOST_SLOTS,
     MOST_SLOT_UNITS,
     MOST_SPLIT_ROWS,
@@ -34,6 +37,8 @@ from ..formats import (
     vehicles_text,
 )
 from .cells import asked_for, memory_text
+from .history import ALONE
+from .rows import Setup
 
 KINDS = {
     "name": f"a name is {NAME_RULE}",
@@ -177,11 +182,12 @@ def setup_range(place: int, name: str, text: str) -> BadCase:
         "signals": "it is 1 where there is a signals.csv, and else 0",
         "limits": "it is 1 where there is a limits.csv, and else 0",
         "cells": f"it is 1 to {count_text(MOST_CELLS_ASKED)}",
-        "rows": f"it is 1 to {count_text(MOST_ROWS_ASKED)}",
-        "links": f"it is 1 to {count_text(MOST_LINKS_ASKED)}",
-        "destinations": f"it is 1 to {count_text(MOST_DESTINATIONS_ASKED)}",
+        "rows": up_to(MOST_ROWS_ASKED, MOST_ROWS_NO_HISTORY),
+        "links": up_to(MOST_LINKS_ASKED, MOST_LINKS_NO_HISTORY),
+        "destinations": up_to(MOST_DESTINATIONS_ASKED, MOST_DESTINATIONS_NO_HISTORY),
         "moves": "it is 1 where what moves is floored for each turn, and 0 where it is for each destination",
         "carry": "it is 1 where what is left over of a capacity is carried to the next slot, and else 0",
+        "history": "it is 0 where a loading keeps no history, and else 1",
     }
     advice = (
         {
@@ -216,19 +222,37 @@ def self_loop(row: int, node: str) -> BadCase:
     )
 
 
-def asking(column: str, most: int, most_asked: int) -> str:
-    """How the setup asks for more than it allows, where it may."""
-    return f"write up to {most_asked} in the column {column} of setup.csv; or " if most < most_asked else ""
+def up_to(kept: int, without: int) -> str:
+    """How much a column may ask for."""
+    return f"it is 1 to {count_text(kept)}, and with 0 in the column history up to {count_text(without)}"
 
 
-def too_many_links(row: int, most: int) -> BadCase:
+def asking(column: str, size: int, setup: Setup, number: int | None = None) -> str:
+    """How the setup asks for so many, where it may, with a history or else without: by writing the most that may be
+    asked for, or this number."""
+    asked: int = getattr(setup, f"{column}_asked")
+    without = {
+        "links": MOST_LINKS_NO_HISTORY,
+        "destinations": MOST_DESTINATIONS_NO_HISTORY,
+        "rows": MOST_ROWS_NO_HISTORY,
+    }[column]
+    if size <= asked:
+        return f"write {number or f'up to {asked}'} in the column {column} of setup.csv; or "
+    if size <= without:
+        return (
+            f"write {number or f'up to {without}'} in the column {column} of setup.csv and 0 in history, {ALONE}; or "
+        )
+    return ""
+
+
+def too_many_links(row: int, setup: Setup) -> BadCase:
+    most = setup.most_links
     return BadCase(
         "links",
         row,
         "TooManyLinks",
         f"there are {count_text(most)} links already, which is the most",
-        f"{asking('links', most, MOST_LINKS_ASKED)}take a part of the network, or merge links that follow"
-        f" one another",
+        f"{asking('links', most + 1, setup)}take a part of the network, or merge links that follow" f" one another",
     )
 
 
@@ -365,35 +389,35 @@ def zero_weight(row: int) -> BadCase:
     return BadCase("splits", row, "ZeroWeight", "all weights are 0", "give at least one link a weight above 0", 4)
 
 
-def too_many_destinations(file: str, row: int, node: str, most: int) -> BadCase:
+def too_many_destinations(file: str, row: int, node: str, setup: Setup) -> BadCase:
+    most = setup.most_destinations
     return BadCase(
         file,
         row,
         "TooManyDestinations",
         f"{node} would be destination {most + 1}, and at most {most} may be",
-        f"{asking('destinations', most, MOST_DESTINATIONS_ASKED)}gather nearby destinations in one node",
+        f"{asking('destinations', most + 1, setup)}gather nearby destinations in one node",
         2,
     )
 
 
-def too_many_rows(file: str, row: int, most: int) -> BadCase:
+def too_many_rows(file: str, row: int, most: int, setup: Setup) -> BadCase:
     return BadCase(
         file,
         row,
         "TooManyRows",
         f"there are {count_text(most)} rows already, which is the most",
-        f"{asking('rows', most, MOST_ROWS_ASKED)}gather rows: longer spans, or fewer pairs",
+        f"{asking('rows', most + 1, setup)}gather rows: longer spans, or fewer pairs",
     )
 
 
-def too_many_routes(rows: int, most: int) -> BadCase:
-    asked = f"write {rows} in the column rows of setup.csv; or " if rows <= MOST_ROWS_ASKED else ""
+def too_many_routes(rows: int, setup: Setup) -> BadCase:
     return BadCase(
         "whole",
         0,
         "TooManyRows",
-        f"the routes make {count_text(rows)} rows, and at most {count_text(most)} may be",
-        f"{asked}take fewer destinations, or a smaller network",
+        f"the routes make {count_text(rows)} rows, and at most {count_text(setup.most_split_rows)} may be",
+        f"{asking('rows', rows, setup, rows)}take fewer destinations, or a smaller network",
     )
 
 
@@ -407,7 +431,7 @@ def cells_over(cells: int, most: int, fits: int, slots: int, produced: int) -> B
         f"write {asked_for(cells)} in the column cells of setup.csv, which takes {memory_text(cells, produced)};"
         f" or "
         if cells <= MOST_CELLS_ASKED
-        else ""
+        else f"write 0 in the column history of setup.csv, {ALONE}; or "
     )
     fitting = (
         "not one slot fits: take "

@@ -26,6 +26,7 @@ from .bad_case import BadCase, NoFile
 from .case import Case
 from .cells import memory_text, produced_bytes
 from .curve_faults import find_fault
+from .history import ANSWERING, NO_HISTORY, NO_HISTORY_LINE, to_have_one
 from .refusals import why_refused
 from .script import Line, line_text, parsed, read_line, script_lines
 from .usage import usage_fault
@@ -68,6 +69,8 @@ def by_status(folder: str, status: int, line: str, words: list[str]) -> Told:
         return bad_curves(folder, line)
     if status == 12:
         return not_loading(folder, line)
+    if status == NO_HISTORY:
+        return no_history(folder, line, words)
     return bad_script(folder, line) if status == 13 else []
 
 
@@ -216,10 +219,30 @@ def no_memory(folder: str, words: list[str]) -> Told:
         case = read_as_program(folder, words)
     except Fault:
         return ["memory was not found"]
+    if not case.setup.history:
+        return [
+            "memory was not found, though the case keeps no history of its loading",
+            "    take fewer destinations or fewer slots, or end other programs",
+        ]
     cells = case.cells()
     return [
         f"memory was not found; the case has {count_text(cells)} cells, {memory_text(cells, produced_bytes(case))}",
         "    take fewer slots, or end other programs",
+    ]
+
+
+def no_history(folder: str, line: str, words: list[str]) -> Told:
+    """Why a word does not answer of a case without history, and what would let it."""
+    try:
+        case = read_as_program(folder, words)
+    except Fault:
+        return []
+    if case.setup.history or line.strip() != NO_HISTORY_LINE:
+        return []
+    return [
+        f"setup.csv, history 0: {words[0]} needs the history of a loading, and this case keeps none;"
+        f" {ANSWERING} answer",
+        f"    {to_have_one(case)}",
     ]
 
 

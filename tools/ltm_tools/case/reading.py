@@ -10,14 +10,11 @@ from ..files import records
 from ..formats import (
     HEADERS,
     MOST_CELLS_ASKED,
-    MOST_DESTINATIONS_ASKED,
     MOST_IN,
     MOST_JAM_PER_KM,
     MOST_KMH,
     MOST_LENGTH_M,
-    MOST_LINKS_ASKED,
     MOST_OUT,
-    MOST_ROWS_ASKED,
     MOST_SLOTS,
     MOST_SLOT_UNITS,
     MOST_STEP_MS,
@@ -30,20 +27,25 @@ from .rows import Demand, Limit, Link, Rows, Setup, Split
 from .valid import check_cells, check_routes, check_splits
 
 MOST_DIAGRAM = (MOST_LENGTH_M, MOST_KMH, MOST_KMH, MOST_JAM_PER_KM)
-RANGES = {
-    "step_ms": (1, MOST_STEP_MS),
-    "slots": (1, MOST_SLOTS),
-    "origin_capacity": (1, MOST_SLOT_UNITS),
-    "signals": (0, 1),
-    "limits": (0, 1),
-    "cells": (1, MOST_CELLS_ASKED),
-    "rows": (1, MOST_ROWS_ASKED),
-    "links": (1, MOST_LINKS_ASKED),
-    "destinations": (1, MOST_DESTINATIONS_ASKED),
-    "moves": (0, 1),
-    "carry": (0, 1),
-}
-"""Of each field of `setup.csv` the least and the most."""
+FLAG = (0, 1)
+
+
+def ranges(setup: Setup) -> dict[str, tuple[int, int]]:
+    """Of each field of `setup.csv` the least and the most, which depend on whether a history is kept."""
+    return {
+        "step_ms": (1, MOST_STEP_MS),
+        "slots": (1, MOST_SLOTS),
+        "origin_capacity": (1, MOST_SLOT_UNITS),
+        "signals": FLAG,
+        "limits": FLAG,
+        "cells": (1, MOST_CELLS_ASKED),
+        "rows": (1, setup.rows_asked),
+        "links": (1, setup.links_asked),
+        "destinations": (1, setup.destinations_asked),
+        "moves": FLAG,
+        "carry": FLAG,
+        "history": FLAG,
+    }
 
 
 def read_case(folder: str | os.PathLike[str], *, splits: bool | None = None) -> Rows:
@@ -101,13 +103,7 @@ def read_setup(data: bytes) -> Setup:
     values = [step_ms, slots, units_in("setup", 2, fields, 3)]
     values += [whole_in("setup", 2, fields, place) for place in range(4, width + 1)]
     named = dict(zip(found[0].fields, values))
-    for place, (name, value) in enumerate(named.items(), 1):
-        least, most = RANGES[name]
-        if not least <= value <= most:
-            raise bad_case.setup_range(place, name, fields[place - 1])
-    if len(found) > 2:
-        raise bad_case.second_setup_record()
-    return Setup(
+    setup = Setup(
         step_ms,
         slots,
         values[2],
@@ -119,7 +115,16 @@ def read_setup(data: bytes) -> Setup:
         named.get("destinations"),
         named.get("moves") == 1,
         named.get("carry") == 1,
+        named.get("history") != 0,
     )
+    allowed = ranges(setup)
+    for place, (name, value) in enumerate(named.items(), 1):
+        least, most = allowed[name]
+        if not least <= value <= most:
+            raise bad_case.setup_range(place, name, fields[place - 1])
+    if len(found) > 2:
+        raise bad_case.second_setup_record()
+    return setup
 
 
 class Reader:
@@ -163,7 +168,7 @@ class Reader:
         if link.tail == link.head:
             raise bad_case.self_loop(row, link.tail)
         if len(self.links) >= self.case.setup.most_links:
-            raise bad_case.too_many_links(row, self.case.setup.most_links)
+            raise bad_case.too_many_links(row, self.case.setup)
         if len(self.out.get(link.tail, ())) >= MOST_OUT:
             raise bad_case.too_many_out(row, link.tail, self.out[link.tail])
         if len(self.into.get(link.head, ())) >= MOST_IN:
@@ -180,9 +185,9 @@ class Reader:
 
     def add_destination(self, file: str, row: int, node: str) -> None:
         """Adds the destination that a record names, where it is new and there is room."""
-        most = self.case.setup.most_destinations
-        if node not in self.destinations and len(self.destinations) >= most:
-            raise bad_case.too_many_destinations(file, row, node, most)
+        setup = self.case.setup
+        if node not in self.destinations and len(self.destinations) >= setup.most_destinations:
+            raise bad_case.too_many_destinations(file, row, node, setup)
         self.destinations.add(node)
 
     def add_demand(self, row: int, fields: list[str]) -> None:
@@ -201,7 +206,7 @@ class Reader:
         key = (origin, destination, first, end)
         most = self.case.setup.most_demand_rows
         if units and key not in self.demand and len(self.demand) >= most:
-            raise bad_case.too_many_rows("demand", row, most)
+            raise bad_case.too_many_rows("demand", row, most, self.case.setup)
         (self.demand.add if units else self.demand.discard)(key)
         self.case.demand.append(Demand(*key, units))
 
@@ -232,7 +237,7 @@ class Reader:
         key = (node, destination, first)
         most = self.case.setup.most_split_rows
         if key not in self.splits and len(self.splits) >= most:
-            raise bad_case.too_many_rows("splits", row, most)
+            raise bad_case.too_many_rows("splits", row, most, self.case.setup)
         self.splits.add(key)
         assert self.case.splits is not None
         self.case.splits.append(Split(*key, weights))

@@ -8,7 +8,13 @@ from ..formats import (
     MOST_CELLS,
     MOST_DEMAND_ROWS,
     MOST_DESTINATIONS,
+    MOST_DESTINATIONS_ASKED,
+    MOST_DESTINATIONS_NO_HISTORY,
     MOST_LINKS,
+    MOST_LINKS_ASKED,
+    MOST_LINKS_NO_HISTORY,
+    MOST_ROWS_ASKED,
+    MOST_ROWS_NO_HISTORY,
     MOST_SLOTS,
     MOST_SLOT_UNITS,
     MOST_SPLIT_ROWS,
@@ -21,8 +27,8 @@ class Setup:
     """The file `setup.csv`: the step in ms, the number of slots, what an origin can send in a slot in thousandths of a
     vehicle; whether there are a `signals.csv` and a `limits.csv`; the most cells, rows of demand and as many of splits,
     links and destinations, each None where the column is not there; whether what moves through a turn is floored
-    for the turn, and not for each destination; and whether what is left over of a capacity, rounded down, is carried
-    to the next slot."""
+    for the turn, and not for each destination; whether what is left over of a capacity, rounded down, is carried to the
+    next slot; and whether a loading keeps its history, the counts of each destination at every boundary."""
 
     step_ms: int
     slots: int
@@ -35,6 +41,7 @@ class Setup:
     destinations: int | None = None
     moves: bool = False
     carry: bool = False
+    history: bool = True
 
     @property
     def horizon_ms(self) -> int:
@@ -65,6 +72,25 @@ class Setup:
     def most_destinations(self) -> int:
         """How many destinations the case may have."""
         return MOST_DESTINATIONS if self.destinations is None else self.destinations
+
+    @property
+    def rows_asked(self) -> int:
+        """How many rows the column `rows` may ask for."""
+        return MOST_ROWS_ASKED if self.history else MOST_ROWS_NO_HISTORY
+
+    @property
+    def links_asked(self) -> int:
+        """How many links the column `links` may ask for."""
+        return MOST_LINKS_ASKED if self.history else MOST_LINKS_NO_HISTORY
+
+    @property
+    def destinations_asked(self) -> int:
+        """How many destinations the column `destinations` may ask for."""
+        return MOST_DESTINATIONS_ASKED if self.history else MOST_DESTINATIONS_NO_HISTORY
+
+    def has_room(self, cells: int) -> bool:
+        """Whether the case may have so many cells: any number where no history is kept."""
+        return not self.history or cells <= self.most_cells
 
 
 @dataclass(slots=True)

@@ -111,7 +111,7 @@ def check_routes(case: Rows) -> None:
     reach = reached(case)
     rows = rows_of_reach(reach)
     if rows > case.setup.most_split_rows:
-        raise bad_case.too_many_routes(rows, case.setup.most_split_rows)
+        raise bad_case.too_many_routes(rows, case.setup)
     pairs = {(row.origin, row.destination) for row in case.standing_demand()}
     ends = {node: number for number, node in enumerate(reach)}
     for origin, destination in sorted(pairs, key=lambda pair: (nodes[pair[0]], ends[pair[1]])):
@@ -121,9 +121,9 @@ def check_routes(case: Rows) -> None:
 
 
 def check_cells(case: Rows) -> None:
-    """Whether the cells are within the limit of the setup."""
+    """Whether the cells are within the limit of the setup, where a history is kept."""
     cells = case.cells()
-    if cells > case.setup.most_cells:
+    if not case.setup.has_room(cells):
         raise bad_case.cells_over(
             cells, case.setup.most_cells, case.slots_that_fit(), case.setup.slots, produced_bytes(case)
         )

@@ -60,6 +60,8 @@ def write_rows(case: Rows, folder: str | os.PathLike[str]) -> None:
         more["moves"] = 1
     if setup.carry:
         more["carry"] = 1
+    if not setup.history:
+        more["history"] = 0
     rows: dict[str, Iterable[Sequence[object]]] = {
         "links": (
             [link.name, link.tail, link.head, link.length_m, link.free_kmh, link.wave_kmh, link.jam_per_km]
