@@ -65,6 +65,8 @@ MOST_ROWS_NO_HISTORY = 8_000_000
 MOST_WEIGHTS = 4  # of a split row
 MOST_CELLS = 54_000_000  # of a case whose setup has no column `cells`
 MOST_CELLS_ASKED = 4_294_967_295
+ANSWERING = "load, delay, gap, totals and routes"  # the words that answer of a case without history
+WITHOUT_HISTORY = f"with which {ANSWERING} answer, and no session"  # what 0 in the column `history` means
 
 # scripts and batches
 MOST_EDITS = 32  # of a batch

@@ -6,7 +6,6 @@ import numpy
 from ..case import Limit
 from ..case.writing import write_limits, write_split_lines
 from ..errors import Fault
-from ..formats import MOST_ROWS_ASKED
 from ..loading.answers import Gap
 from ..loading.delay import demand_by_origin, produced
 from ..loading.told import told_gap
@@ -26,7 +25,7 @@ class Anew(Engine):
     """An engine whose files are written, and read by the program, at each change."""
 
     def _begin(self, shares: Shares) -> None:
-        made = case_with(self.case, [], most=MOST_ROWS_ASKED)
+        made = case_with(self.case, [], most=self.case.setup.rows_asked)
         made.setup.limits = True
         made.write(self.folder.name)
         origins = demand_by_origin(self.case)
@@ -53,7 +52,7 @@ class Anew(Engine):
         lines = shares.lines()
         if lines == self.shares.pieces:
             return False
-        check_size(sum(piece.count(b"\n") for piece in lines), sum(map(len, lines)))
+        check_size(sum(piece.count(b"\n") for piece in lines), sum(map(len, lines)), self.case.setup.rows_asked)
         write_split_lines(self.folder.name, lines)
         self.shares, self.loaded = LineShares(lines), None
         return True

@@ -15,4 +15,5 @@ LEAST_ENDS = 16  # destinations from which on the program loads a case without k
 def engine_of(net: Net, shares: Shares, program: Program, case: Case | None = None) -> Engine:
     """The engine that is the faster one where most shares change each time, and takes less memory."""
     is_lean = len(net.end_names) >= LEAST_ENDS and has_command(WORDS[0], program)
+    is_lean = is_lean or not (case or net.case).setup.history
     return (Anew if is_lean else Settling)(net, shares, program, case)

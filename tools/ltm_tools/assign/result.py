@@ -10,14 +10,18 @@ from ..errors import Fault
 from ..files import read_bytes, read_table, write_bytes, write_text
 from ..formats import count_text, vehicles_text
 from ..listing import csv_text
+from ..loading.answers import totals_of
 from ..loading.delay import MILLIONTHS, seconds_text
 from ..loading.loaded import made
+from ..program import output
 from .assigning import Iteration
 from .rounds import Rounds
 
 ITERATIONS_FILE = "iterations.csv"
 FIELDS = ("iteration", "round", "demand", "spent", "gap", "exact_gap", "regret", "not_there", "step")
 MOST_LATE = 3  # destinations that are named
+LATE = "vehicles have not arrived by the end of the horizon"
+LONGER = "take a longer horizon, so that all of their travel time counts"
 
 
 def splits_from(folder: str | os.PathLike[str], case: Case) -> list[Split]:
@@ -75,8 +79,12 @@ def read_iterations(folder: str | os.PathLike[str]) -> tuple[list[int], list[flo
 
 
 def late_line(folder: str, program: str | None) -> str:
-    """The vehicles that have not arrived by the end of the horizon, by the destinations that most of them are for."""
+    """The vehicles that have not arrived by the end of the horizon, by the destinations that most of them are
+    for, which are not known where no history is kept."""
     case = Case.read(folder)
+    if not case.setup.history:
+        totals = totals_of(output(folder, "load", program=program).split(b"\n", 1)[0].decode().split())
+        return f"{vehicles_text(totals.on_links + totals.waiting)} {LATE}; {LONGER}"
     curves = made(folder, program, case.setup.step_ms, case.setup.slots + 1)
     late = {name: -int(curves.arrived(name)[-1]) for name in case.destinations}
     for row in case.standing_demand():
@@ -84,7 +92,4 @@ def late_line(folder: str, program: str | None) -> str:
     worst = sorted((units, name) for name, units in late.items() if units)[::-1]
     named = ", ".join(f"{vehicles_text(units)} for {name}" for units, name in worst[:MOST_LATE])
     more = f", and more for {count_text(len(worst) - MOST_LATE)} others" if len(worst) > MOST_LATE else ""
-    return (
-        f"{vehicles_text(sum(late.values()))} vehicles have not arrived by the end of the horizon: {named}{more}; take"
-        f" a longer horizon, so that all of their travel time counts"
-    )
+    return f"{vehicles_text(sum(late.values()))} {LATE}: {named}{more}; {LONGER}"

@@ -32,12 +32,12 @@ from ..formats import (
     VEHICLES_RULE,
     WEIGHTS_RULE,
     WHOLE_RULE,
+    WITHOUT_HISTORY,
     count_text,
     headers_of,
     vehicles_text,
 )
 from .cells import asked_for, memory_text
-from .history import ALONE
 from .rows import Setup
 
 KINDS = {
@@ -239,9 +239,7 @@ def asking(column: str, size: int, setup: Setup, number: int | None = None) -> s
     if size <= asked:
         return f"write {number or f'up to {asked}'} in the column {column} of setup.csv; or "
     if size <= without:
-        return (
-            f"write {number or f'up to {without}'} in the column {column} of setup.csv and 0 in history, {ALONE}; or "
-        )
+        return f"write {number or f'up to {without}'} in the column {column} of setup.csv and 0 in history, {WITHOUT_HISTORY}; or "
     return ""
 
 
@@ -431,7 +429,7 @@ def cells_over(cells: int, most: int, fits: int, slots: int, produced: int) -> B
         f"write {asked_for(cells)} in the column cells of setup.csv, which takes {memory_text(cells, produced)};"
         f" or "
         if cells <= MOST_CELLS_ASKED
-        else f"write 0 in the column history of setup.csv, {ALONE}; or "
+        else f"write 0 in the column history of setup.csv, {WITHOUT_HISTORY}; or "
     )
     fitting = (
         "not one slot fits: take "

@@ -11,6 +11,7 @@ from pathlib import Path
 from ..errors import Fault
 from ..files import is_utf16, read_bytes, records, shown
 from ..formats import (
+    ANSWERING,
     HEADERS,
     MOST_CURVES_BYTES,
     MOST_EDITOR_LINES,
@@ -26,7 +27,7 @@ from .bad_case import BadCase, NoFile
 from .case import Case
 from .cells import memory_text, produced_bytes
 from .curve_faults import find_fault
-from .history import ANSWERING, NO_HISTORY, NO_HISTORY_LINE, to_have_one
+from .history import NO_HISTORY, NO_HISTORY_LINE, to_have_one
 from .refusals import why_refused
 from .script import Line, line_text, parsed, read_line, script_lines
 from .usage import usage_fault

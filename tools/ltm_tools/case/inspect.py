@@ -4,6 +4,7 @@ from collections.abc import Mapping
 from ..errors import Fault
 from ..files import records
 from ..formats import (
+    ANSWERING,
     MOST_CELLS_ASKED,
     MOST_SLOTS,
     clock_text,
@@ -19,6 +20,7 @@ from .circles import find_circles
 from .closed import closed_lines
 from .fields import fetch, read_header
 from .flooring import flooring_lines, pulse_lines
+from .history import to_have_one
 from .inspect_origins import MOST_TOLD, more_line, origin_lines, pushing_lines
 from .reading import Reader, read_setup
 from .rounding import red_lines, rounding_lines
@@ -102,14 +104,6 @@ def size_lines(case: Case) -> list[str]:
     if demand:
         first, last = min(row.from_slot for row in demand), max(row.to_slot for row in demand)
         span = f", setting out from {clock_text(first * setup.step_ms)} to {clock_text(last * setup.step_ms)}"
-    cells, fits = case.cells(), case.slots_that_fit()
-    produced = produced_bytes(case)
-    in_memory = min(fits, case.slots_that_fit(cells_in(free_memory(), produced)))
-    asking = (
-        f"; the column cells of setup.csv may ask for {asked_for(cells)}"
-        if setup.most_cells < cells <= MOST_CELLS_ASKED
-        else ""
-    )
     return [
         f"network     {counted(len(case.links), 'link')}, {counted(len(case.nodes), 'node')},"
         f" {counted(len(case.destinations), 'destination')}",
@@ -118,10 +112,33 @@ def size_lines(case: Case) -> list[str]:
         "splits      "
         + ("none: ltm routes writes them" if case.splits is None else counted(len(case.standing_splits()), "row")),
         f"horizon     {clock_text(setup.horizon_ms)}, {counted(setup.slots, 'slot')} of {setup.step_ms} ms",
+        *(cell_lines(case) if setup.history else no_history_lines(case)),
+    ]
+
+
+def cell_lines(case: Case) -> list[str]:
+    """The cells of a case, and the memory that they take."""
+    setup, cells, fits = case.setup, case.cells(), case.slots_that_fit()
+    produced = produced_bytes(case)
+    in_memory = min(fits, case.slots_that_fit(cells_in(free_memory(), produced)))
+    asking = (
+        f"; the column cells of setup.csv may ask for {asked_for(cells)}"
+        if setup.most_cells < cells <= MOST_CELLS_ASKED
+        else ""
+    )
+    return [
         f"cells       {count_text(cells)} of at most {count_text(setup.most_cells)}; up to {count_text(fits)} slots fit"
         + (", the most there may be" if fits == MOST_SLOTS else "")
         + asking,
         f"memory      {memory_text(cells, produced)}; up to {count_text(in_memory)} slots fit in what is free",
+    ]
+
+
+def no_history_lines(case: Case) -> list[str]:
+    """What a case is that keeps no history, and what would let it keep one."""
+    return [
+        f"cells       {count_text(case.cells())}, which are not kept",
+        f"history     none: {ANSWERING} answer; {to_have_one(case)}",
     ]
 
 

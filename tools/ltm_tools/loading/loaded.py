@@ -6,11 +6,12 @@ from typing import NamedTuple
 
 from .. import program
 from ..case import Case
+from ..case.history import check_history
 from ..errors import Fault
 from ..formats import clock_text
 from . import delay
 from .curves import Curves
-from .told import ToldCurves, loading_told
+from .told import ToldCurves, loading_of_totals, loading_told
 
 
 class LoadedCase(NamedTuple):
@@ -56,11 +57,15 @@ def loaded_by_destination(folder: str, curves: str | None, named: str | None) ->
     if curves is not None:
         return loaded(folder, curves, named)
     case = Case.read(folder)
+    check_history(case, folder, "curves by destination need")
     return LoadedCase(case, of_case(case, made(folder, named, case.setup.step_ms, case.setup.slots + 1)))
 
 
 def made_by_program(case: Case, folder: str, named: str | None) -> LoadedCase:
-    """The case with the curves of its loading: as a session tells them, else as `ltm curves` writes them."""
+    """The case with the curves of its loading: as a session tells them, or `ltm totals` where no history is kept, else as
+    `ltm curves` writes them."""
+    if not case.setup.history:
+        return LoadedCase(case, loading_of_totals(case, folder, named))
 
     def make() -> Curves:
         return of_case(case, made(folder, named, case.setup.step_ms, case.setup.slots + 1))

@@ -1,5 +1,5 @@
-"""The curves of a loading as a session tells them, a line for each link and origin: sums over destinations, where `ltm
-curves` writes each curve for each destination."""
+"""The curves of a loading as a session tells them, or `ltm totals` where no history is kept: a line for each link and
+origin, sums over destinations, where `ltm curves` writes each curve for each destination."""
 from __future__ import annotations
 
 import functools
@@ -9,12 +9,14 @@ from collections.abc import Callable, Mapping, Sequence
 from typing import TYPE_CHECKING
 
 from ..case import Case
+from ..case.history import check_history
 from ..errors import Fault
 from ..program import output
 from .answers import Gap, Names, Totals, all_delays_of, gap_of, totals_of, both_texts
 from .counts import Counts, less, zeros
 from .curves import KINDS, Curves
-from .delay import Report, demand_by_origin
+from .delay import Report, demand_by_origin, report
+from .totals import written_totals
 
 if TYPE_CHECKING:
     import pandas
@@ -23,13 +25,12 @@ Program = str | os.PathLike[str] | None
 Texts = Mapping[tuple[str, str], bytes]
 
 
-class ToldCurves(Curves):
-    """Sums over destinations, with the totals and the delay told beside them. Who asks for a destination has `whole`
-    make the curves of all, once."""
+class SumCurves(Curves):
+    """Sums over destinations. Who asks for a destination has `whole` make the curves of all, once."""
 
-    def __init__(self, case: Case, totals: Totals, report: Report, sums: Texts, make: Callable[[], Curves]) -> None:
+    def __init__(self, case: Case, sums: Texts, make: Callable[[], Curves]) -> None:
         super().__init__(case.setup.step_ms, case.setup.slots + 1, {})
-        self.case, self.totals, self.report, self.sums, self.make = case, totals, report, sums, make
+        self.case, self.sums, self.make = case, sums, make
 
     @functools.cached_property
     def whole(self) -> Curves:
@@ -55,6 +56,17 @@ class ToldCurves(Curves):
             return zeros(self.boundaries)
         return self.whole.counts(kind, name, destination)
 
+    def to_pandas(self, kinds: Sequence[str] = KINDS, by_destination: bool = False) -> "pandas.DataFrame":
+        return self.whole.to_pandas(kinds, by_destination)
+
+
+class ToldCurves(SumCurves):
+    """Sums over destinations, with the totals and the delay beside them."""
+
+    def __init__(self, case: Case, totals: Totals, report: Report, sums: Texts, make: Callable[[], Curves]) -> None:
+        super().__init__(case, sums, make)
+        self.totals, self.report = totals, report
+
     def all_arrived(self) -> Counts:
         """What has left the origins and is on no link."""
         arrived = zeros(self.boundaries)
@@ -63,9 +75,6 @@ class ToldCurves(Curves):
         for name in self.links:
             arrived = less(arrived, self.on_link(name))
         return arrived
-
-    def to_pandas(self, kinds: Sequence[str] = KINDS, by_destination: bool = False) -> "pandas.DataFrame":
-        return self.whole.to_pandas(kinds, by_destination)
 
 
 def loading_told(case: Case, folder: str, program: Program, make: Callable[[], Curves]) -> ToldCurves | None:
@@ -90,6 +99,29 @@ def loading_told(case: Case, folder: str, program: Program, make: Callable[[], C
     for name, line in zip(origins, lines[2 + len(links) :]):
         _, sums["dep", name] = both_texts(line, b"left")
     return ToldCurves(case, totals_of(totals), report, sums, make)
+
+
+def loading_of_totals(case: Case, folder: str, program: Program) -> ToldCurves:
+    """The loading of a case that keeps no history, by `ltm totals 1`; totals and delay are worked out. Who asks for a
+    destination is told that there is no history."""
+
+    def make() -> Curves:
+        check_history(case, folder, "curves by destination need")
+        raise AssertionError("it keeps no history")
+
+    sums: dict[tuple[str, str], bytes] = {}
+    for kind, name, texts in written_totals(
+        output(folder, "totals", "1", program=program).splitlines(), case.setup.slots
+    ):
+        for of, text in zip(("up", "down") if kind == "link" else ("dep",), texts):
+            sums[of, name] = b"0 " + text
+    curves = SumCurves(case, sums, make)
+    found = report(curves, case)
+    generated = sum(row.units for row in case.standing_demand())
+    waiting = generated - sum(int(curves.departed(name)[-1]) for name in found.origins)
+    on_links = sum(int(curves.on_link(link.name)[-1]) for link in case.links)
+    totals = Totals(0, generated, generated - waiting - on_links, on_links, waiting)
+    return ToldCurves(case, totals, found, sums, make)
 
 
 def told_gap(folder: str, program: Program) -> Gap:

@@ -20,15 +20,36 @@ class Told(NamedTuple):
     counts: list[Counts]
 
 
-def told_totals(lines: Iterable[bytes], boundaries: int) -> Iterator[Told]:
-    """The lines with the counts of so many boundaries each; a Fault where one is none."""
+class Written(NamedTuple):
+    """A line as it is written: its counts are texts."""
+
+    kind: str
+    name: str
+    texts: list[bytes]
+
+
+def written_totals(lines: Iterable[bytes], boundaries: int) -> Iterator[Written]:
+    """The lines, each with as many numbers as there are boundaries; a Fault where one is none."""
     for line in lines:
         kind, _, rest = line.rstrip(b"\n").partition(b" ")
         name, _, rest = rest.partition(b" ")
         before, between = WORDS.get(kind, (b"", b""))
         texts = rest[len(before) :].split(between) if between else [rest[len(before) :]]
+        whole = all(text.count(b" ") == boundaries - 1 for text in texts)
+        if not before or not rest.startswith(before) or len(texts) != 1 + bool(between) or not whole:
+            raise none_of(line, boundaries)
+        yield Written(kind.decode(), name.decode(), texts)
+
+
+def told_totals(lines: Iterable[bytes], boundaries: int) -> Iterator[Told]:
+    """The lines with the counts of so many boundaries each; a Fault where one is none."""
+    for kind, name, texts in written_totals(lines, boundaries):
         found = [counts_of(text) for text in texts]
-        whole = all(counts is not None and len(counts) == boundaries for counts in found)
-        if not before or not rest.startswith(before) or len(found) != 1 + bool(between) or not whole:
-            raise Fault(f"the program writes {line[:60]!r}, which is no line of {boundaries} counts")
-        yield Told(kind.decode(), name.decode(), found)
+        if not all(counts is not None and len(counts) == boundaries for counts in found):
+            raise none_of(f"{kind} {name}".encode(), boundaries)
+        yield Told(kind, name, found)
+
+
+def none_of(line: bytes, boundaries: int) -> Fault:
+    """What is wrong with a line that tells no counts."""
+    return Fault(f"the program writes {line[:60]!r}, which is no line of {boundaries} counts")

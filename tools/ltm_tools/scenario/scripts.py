@@ -7,6 +7,7 @@ from collections.abc import Sequence
 from typing import NamedTuple
 
 from ..case import Case
+from ..case.history import check_history_of
 from ..case.refusals import why_refused
 from ..case.script import read_line
 from ..errors import Fault
@@ -68,6 +69,7 @@ def answers(
     folder: str | os.PathLike[str], lines: Sequence[bytes], program: str | os.PathLike[str] | None
 ) -> list[str]:
     """What a session answers to these lines of edits, one after the other."""
+    check_history_of(folder, "a session needs")
     found = (
         output(folder, "session", "0", program=program, script=b"".join(line + b"\n" for line in lines))
         .decode("utf-8", "backslashreplace")

@@ -15,6 +15,7 @@ from types import TracebackType
 from typing import TYPE_CHECKING, TypeVar
 
 from ..case import Case
+from ..case.history import check_history_of
 from ..case.refusals import why_refused
 from ..errors import Fault
 from ..files import shown
@@ -70,6 +71,7 @@ class Session:
     ) -> None:
         if not 0 <= workers <= MOST_WORKERS:
             raise Fault(f"a session has 0 to {MOST_WORKERS} workers, and not {workers}")
+        check_history_of(folder, "a session needs")
         self.folder, self.program = folder, program
         self.words = ["session", str(workers)]
         self.made: list[list[Told]] = []  # the accepted batches

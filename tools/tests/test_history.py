@@ -1,0 +1,207 @@
+"""Commands over a case that keeps no history (`history` 0 in `setup.csv`): those that need no more than `ltm totals`
+and the other words that answer write the same as with a history, and the others say in one line why they cannot."""
+import contextlib
+import os
+import re
+import shlex
+import unittest
+from collections.abc import Iterator
+from pathlib import Path
+from unittest import mock
+
+import commands
+from stage import CURVES, RUNS, Run, set_up
+from support import EXAMPLES, FolderTest, needs, needs_program
+from ltm_tools.case import Case, Demand, Link, Setup, Split
+from ltm_tools.case.history import NoHistory, check_history, to_have_one, too_large
+from ltm_tools.errors import Fault
+from ltm_tools.libraries import missing
+from ltm_tools.loading.loaded import loaded
+from ltm_tools.loading.sides import totals_at_end
+from ltm_tools.loading.totals import written_totals
+from ltm_tools.scenario.session import Session
+
+ANSWER = ("inspect", "queues", "times", "compare case other", "page", "geojson", "flows", "validate", "drive", "draw")
+ASSIGN = ("assign", "closures")
+REFUSE = ("apply", "cut", "compare case --script", "sweep", "signals turning --optimise", "bottlenecks", "calibrate")
+NOT_LOADED = ("from-", "demand", "splits", "signals case", "turns", "explain", "plot")
+"""How the words of the runs begin that need no loading, or draw a curve file."""
+SECONDS = re.compile(r" +[0-9.]+$", re.MULTILINE)
+
+
+def without_history(folder: Path) -> None:
+    """Lets a case keep no history."""
+    path = folder / "setup.csv"
+    header, row = path.read_text().split()
+    path.write_text(f"{header},history\n{row},0\n")
+
+
+def begins(run: Run, *words: str) -> bool:
+    """Whether a run begins with one of these."""
+    return run.words.startswith(words)
+
+
+@contextlib.contextmanager
+def in_folder(folder: Path) -> Iterator[None]:
+    """Works in a folder."""
+    was = os.getcwd()
+    os.chdir(folder)
+    try:
+        yield
+    finally:
+        os.chdir(was)
+
+
+class Commands(FolderTest):
+    def told(self, run: Run, history: bool) -> tuple[int, str, str, dict[str, bytes]]:
+        """The status of a command, what it writes, and its files, of cases with a history or without one, loaded by the
+        program."""
+        words = run.words.replace(CURVES, "").replace("--other-curves other/curves.csv", "")
+        folder = self.folder / f"{len(list(self.folder.iterdir()))}"
+        folder.mkdir()
+        set_up(folder)
+        for case in ("case", "other", "turning"):
+            (folder / case / "curves.csv").unlink(missing_ok=True)
+            if not history:
+                without_history(folder / case)
+        before = set(folder.rglob("*"))
+        with in_folder(folder):
+            told = commands.run(*shlex.split(words))
+        made = [path for path in folder.rglob("*") if path.is_file() and path not in before]
+        return (*told, {str(path.relative_to(folder)): path.read_bytes() for path in made})
+
+    def runs(self, *words: str) -> list[Run]:
+        """The runs that begin so, for which all is installed."""
+        return [
+            run
+            for run in RUNS
+            if begins(run, *words) and not missing([need for need in run.needs if need != "program"])
+        ]
+
+    def test_each_run_is_tested(self) -> None:
+        for run in RUNS:
+            self.assertEqual(
+                sum(begins(run, *some) for some in (ANSWER, ASSIGN, REFUSE, NOT_LOADED, ("live",))), 1, run.words
+            )
+
+    @needs_program
+    def test_those_that_answer(self) -> None:
+        """The text and the files are the same, byte for byte; of `inspect` all but the lines on size."""
+        for run in self.runs(*ANSWER):
+            with self.subTest(run.words):
+                one, other = self.told(run, True), self.told(run, False)
+                self.assertEqual((one[0], other[0]), (0, 0), other[2])
+                if begins(run, "inspect"):
+                    continue
+                self.assertTrue(one[1] or one[3])
+                self.assertEqual(one, other)
+
+    @needs_program
+    @needs("python3-numpy")
+    def test_those_that_assign(self) -> None:
+        """The shares are the same, and so are the lines but for seconds."""
+        for run in self.runs(*ASSIGN):
+            with self.subTest(run.words):
+                one, other = self.told(run, True), self.told(run, False)
+                self.assertEqual((one[0], other[0]), (0, 0), other[2])
+                self.assertEqual(
+                    SECONDS.sub("", one[1]).split("have not")[0], SECONDS.sub("", other[1]).split("have not")[0]
+                )
+                self.assertEqual(one[3].pop("made/setup.csv", b"")[:30], other[3].pop("made/setup.csv", b"")[:30])
+                self.assertEqual(one[3], other[3])
+
+    @needs_program
+    def test_those_that_cannot(self) -> None:
+        for run in self.runs(*REFUSE):
+            with self.subTest(run.words):
+                one, other = self.told(run, True), self.told(run, False)
+                self.assertEqual(one[0], 0, one[2])
+                self.assertEqual((other[0], other[1], other[3]), (1, "", {}))
+                self.assertRegex(
+                    other[2],
+                    r"\Altm-tools [a-z]+: \S+ keeps no history of its loading, which (a session needs|curves by"
+                    r" destination need); it is small enough for one: take the column history out of setup.csv\n\Z",
+                )
+
+    @needs_program
+    @needs("python3-tornado")
+    def test_live(self) -> None:
+        for run in self.runs("live"):
+            with mock.patch("webbrowser.open", side_effect=KeyboardInterrupt):
+                status, out, err, made = self.told(run, False)
+            self.assertEqual((status, out, made), (1, "", {}))
+            self.assertIn("case keeps no history of its loading, which a session needs", err)
+
+
+@needs_program
+class Loadings(FolderTest):
+    def test_the_same_as_a_session_tells(self) -> None:
+        """Curves, delay and totals of the examples, with signals, limits, queues at the end and waiting origins."""
+        for name in ("merge", "signal", "spillback", "incident", "evening", "detour", "ramp_meter"):
+            Case.read(EXAMPLES / name).write(self.folder / name)
+            with_one = loaded(str(self.folder / name), None, None)
+            without_history(self.folder / name)
+            one, other = with_one.curves, loaded(str(self.folder / name), None, None)
+            case, curves = other
+            self.assertFalse(case.setup.history)
+            with self.subTest(name):
+                for link in case.links:
+                    self.assertEqual(list(one.up(link.name)), list(curves.up(link.name)))
+                    self.assertEqual(list(one.down(link.name)), list(curves.down(link.name)))
+                for node in case.nodes:
+                    self.assertEqual(list(one.departed(node)), list(curves.departed(node)))
+                arrived = [list(some.all_arrived()) for some in (one, curves)]
+                self.assertEqual(arrived[0], arrived[1])
+                self.assertEqual(one.report, curves.report)  # type: ignore[attr-defined]
+                ends = [totals_at_end(some, arrived[0][-1]) for some in (with_one, other)]
+                self.assertEqual(ends[0], ends[1])
+                with self.assertRaisesRegex(NoHistory, "which curves by destination need; it is small enough"):
+                    curves.up(case.links[0].name, case.destinations[0])
+
+    def test_a_session(self) -> None:
+        Case.read(EXAMPLES / "merge").write(self.folder)
+        with Session(self.folder) as session:
+            self.assertGreater(session.totals().generated, 0)
+        without_history(self.folder)
+        with self.assertRaisesRegex(NoHistory, "which a session needs"):
+            Session(self.folder)
+
+
+class Rules(FolderTest):
+    LINES = [b"link a entered 1 2 left 0 1", b"origin n1 departed 1 2"]
+
+    def test_what_is_no_line(self) -> None:
+        self.assertEqual(len(list(written_totals(self.LINES, 2))), 2)
+        for lines, boundaries in ((self.LINES, 3), ([b"link a entered 1 2"], 2), ([b"node n1 departed 1 2"], 2)):
+            with self.assertRaisesRegex(Fault, "is no line of . counts"):
+                list(written_totals(lines, boundaries))
+
+    def test_what_would_let_it_have_one(self) -> None:
+        links = [Link(f"a{k}", f"n{k}", f"n{k + 1}", 20, 36, 18, 150) for k in range(300)]
+        case = Case(
+            Setup(1000, 4, 1000, history=False), links, [Demand("n0", "n1", 0, 1, 1)], [Split("n0", "n1", 0, {"a0": 1})]
+        )
+        self.assertEqual(too_large(case), [])
+        self.assertEqual(to_have_one(case), "it is small enough for one: take the column history out of setup.csv")
+        case.setup.slots = 10_000
+        for end in range(1, 260):
+            case.demand.append(Demand("n0", f"n{end}", 0, 1, 1))
+        # widths: 2 links and an origin at each node within, 6 * 259 + 4 each; 301 nodes
+        self.assertEqual(
+            too_large(case), ["259 destinations (at most 256)", f"{case.cells():,} cells (at most 4,294,967,295)"]
+        )
+        with self.assertRaisesRegex(
+            NoHistory, "it is too large for one, with 259 destinations .* cells .*: gather zones"
+        ):
+            check_history(case, "town", "a session needs")
+        case.setup.history = True
+        check_history(case, "town", "a session needs")
+        case.setup.history, case.demand = False, case.demand[:60]
+        self.assertGreater(case.cells(), 54_000_000)
+        self.assertTrue(to_have_one(case).endswith("out of setup.csv, and ask for its cells in cells"))
+        case.setup.cells = case.cells()
+        self.assertTrue(to_have_one(case).endswith("out of setup.csv"))
+
+
+if __name__ == "__main__":
+    unittest.main()
