@@ -663,7 +663,11 @@ class Words(FolderTest):
         # 256 destinations and one: more than a case with a history may have
         rows = [f"n1,n{end},0,a=1\n" for end in range(3, 259)]
         rows += [f"n{node},n{end},0,c{node - 2}=1\n" for end in range(3, 259) for node in range(2, end)]
-        files = {"setup": setup_0.format("destinations,", "300,"), **star(256), "splits": ROAD["splits"] + "".join(rows)}
+        files = {
+            "setup": setup_0.format("destinations,", "300,"),
+            **star(256),
+            "splits": ROAD["splits"] + "".join(rows),
+        }
         self.assertEqual(
             explain(str(self.case(**files)), 14, "no history", ["curves"])[1],
             "    it is too large for one, with 257 destinations (at most 256): gather zones into fewer, take a longer"

@@ -385,9 +385,12 @@ class Zones(GmnsTest):
 
     def test_fewer_destinations(self) -> None:
         self.row_of_ends(257)
-        self.assertIn("there are 257 destinations, and at most 256 may be: give --destinations 256", self.refused())
-        self.assertIn("there are 257 destinations", self.refused("--leave-out-unreached"))
-        self.assertIn("--destinations is 1 to 256", self.refused("--destinations", "257"))
+        kept = ("--history", "1")
+        said = self.refused(*kept)
+        self.assertIn("there are 257 destinations, and at most 256 may be: give --destinations 256", said)
+        self.assertIn("there are 257 destinations", self.refused("--leave-out-unreached", *kept))
+        self.assertIn("--destinations is 1 to 2000", self.refused("--destinations", "2001"))
+        self.assertIn("--destinations is 1 to 256 with --history 1", self.refused("--destinations", "257", *kept))
         case = self.made("--destinations", "2", "--horizon", "60")
         # 258 and 257 have most; whoever wants less far drives on to 257
         self.assertEqual(
@@ -397,7 +400,7 @@ class Zones(GmnsTest):
     def test_destinations_are_counted_before_ways_are_sought(self) -> None:
         self.row_of_ends(257)
         with mock.patch.object(Reach, "__init__", side_effect=AssertionError("ways are sought")):
-            self.assertIn("there are 257 destinations", self.refused())
+            self.assertIn("there are 257 destinations", self.refused("--history", "1"))
 
     def test_destinations_that_are_asked_for(self) -> None:
         self.row_of_ends(65)
@@ -521,7 +524,7 @@ class Fitted(GmnsTest):
         # with 32 destinations the widths are 131, 196 of 1,498 nodes and 66, a boundary of both curves 287,936, the
         # limits 2,998: 584,739 a slot
         self.corridor(32)
-        err = self.refused("--step", "2s", "--horizon", "300")
+        err = self.refused("--step", "2s", "--horizon", "300", "--history", "1")
         self.assertIn(
             f"{584_739 * 9000 + 287_936:,} cells, and at most 4,294,967,295 may be: --horizon 244 at this"
             f" step or --fit 2500 at this horizon"
@@ -532,6 +535,22 @@ class Fitted(GmnsTest):
             "4,280,577,416 cells, so the column cells of setup.csv asks for 4,281,000,000",
             self.make("--step", "2s", "--horizon", "244")[1],
         )
+
+    def test_a_case_of_more_cells_keeps_no_history(self) -> None:
+        self.corridor(32)
+        status, out, _ = self.make("--step", "2s", "--horizon", "300")
+        lines = out.splitlines()
+        self.assertEqual(status, 0)
+        self.assertEqual(lines[-1], f"{584_739 * 9000 + 287_936:,} cells, of which no history is kept")
+        self.assertIn(
+            f"too large for the history of a loading, with {584_739 * 9000 + 287_936:,} cells (at most 4,294,967,295):"
+            " so the column history of setup.csv is 0, with which load, delay, gap, totals and routes answer, and no"
+            " session; for a session, and so for the live map, give --horizon 244 at this step or --fit 2500 at this"
+            " horizon or --destinations 26 at both",
+            lines,
+        )
+        setup = (self.folder / "case" / "setup.csv").read_text()
+        self.assertEqual(setup, "step_ms,slots,origin_capacity,moves,history\n2000,9000,32,1,0\n")
 
 
 class InTime(GmnsTest):

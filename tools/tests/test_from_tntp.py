@@ -156,8 +156,39 @@ class Zones(TntpTest):
         trips = "Origin 1\n" + " ".join(f"{node} : 1;" for node in range(2, 259)) + "\n"
         zones = "<NUMBER OF ZONES> 258\n<FIRST THRU NODE> 1\n"
         with mock.patch.object(Reach, "__init__", side_effect=AssertionError("ways are sought")):
-            said = self.refused("--length-unit", "km", rows=rows, trips=trips, zones=zones)
+            said = self.refused("--length-unit", "km", "--history", "1", rows=rows, trips=trips, zones=zones)
         self.assertIn("there are 257 destinations, and at most 256 may be: give --destinations", said)
+        case = self.made("--length-unit", "km", rows=rows, trips=trips, zones=zones)
+        self.assertEqual((len(case.destinations), case.setup.destinations, case.setup.history), (257, 257, False))
+        self.assertIn(
+            "too large for the history of a loading, with 257 destinations (at most 256): so the column history of"
+            " setup.csv is 0, with which load, delay, gap, totals and routes answer, and no session; for a session, and"
+            " so for the live map, give --destinations 256\n",
+            self.out,
+        )
+        case = self.made("--length-unit", "km", "--destinations", "256", rows=rows, trips=trips, zones=zones)
+        self.assertEqual((len(case.destinations), case.setup.history), (256, True))
+
+    def test_what_no_case_can_have_is_refused_before_ways_are_sought(self) -> None:
+        """2,001 destinations; and trips between each of 1,300 nodes, which are in no file that is read."""
+        rows = tuple(f"{node} {node + 1} 1800 0.5 0.5" for node in range(1, 2002))
+        trips = "Origin 1\n" + " ".join(f"{node} : 1;" for node in range(2, 2003)) + "\n"
+        zones = "<NUMBER OF ZONES> 2002\n<FIRST THRU NODE> 1\n"
+        with mock.patch.object(Reach, "__init__", side_effect=AssertionError("ways are sought")):
+            said = self.refused("--length-unit", "km", rows=rows, trips=trips, zones=zones)
+            self.assertIn("there are 2001 destinations, and at most 2000 may be: give --destinations 2000,", said)
+            ends = " ".join(f"{node} : 1;" for node in range(1, 1301))
+            trips = "".join(f"Origin {node}\n{ends}\n" for node in range(1, 1301))
+            said = self.refused("--length-unit", "km", rows=rows, trips=trips, zones=zones)
+        self.assertIn("1,688,700 pairs of origin and destination make a demand.csv of about", said)
+        self.assertIn("bytes or more, and at most 16,777,216 are read: give fewer --destinations", said)
+
+    def test_a_case_that_is_small_enough_for_a_history(self) -> None:
+        self.assertTrue(self.made("--length-unit", "km").setup.history)
+        self.assertFalse(self.made("--length-unit", "km", "--history", "0").setup.history)
+        self.assertIn(
+            "small enough for a history: the column history of setup.csv is 0 all the same, with which load", self.out
+        )
 
     def test_trips_over_a_period_and_scaled(self) -> None:
         case = self.made("--length-unit", "km", "--period", "30", "--scale", "0.5")

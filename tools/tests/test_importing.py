@@ -16,6 +16,7 @@ from ltm_tools.network.importing import NotCarried, check_destinations, destinat
 from ltm_tools.network.network import Network, Node, road_of
 from ltm_tools.network.bad_option import BadOption
 from ltm_tools.network.crossings.options import CrossingOptions
+from ltm_tools.network.options import Options
 from ltm_tools.sumo.importing import import_sumo
 from ltm_tools.sumo.options import SumoOptions
 from ltm_tools.tntp.importing import TntpOptions
@@ -141,9 +142,12 @@ class Sizes(unittest.TestCase):
         self.assertEqual(destinations_that_fit(raw, 10_000_000, 1000), 8)
         self.assertEqual(destinations_that_fit(raw, 10_000_000, None), 256)
         with self.assertRaisesRegex(Fault, "--destinations 8 .about 8 fit into the cells .* these are the nodes 8, 9,"):
-            check_destinations(map(str, range(300)), 8)
+            check_destinations(map(str, range(300)), Options(history=True), 8)
         with self.assertRaisesRegex(Fault, "give --destinations 256, which"):
-            check_destinations(map(str, range(300)))
+            check_destinations(map(str, range(300)), Options(history=True))
+        check_destinations(map(str, range(2000)), Options(), 8)
+        with self.assertRaisesRegex(Fault, "there are 2001 destinations, .* give --destinations 2000, which"):
+            check_destinations(map(str, range(2001)), Options(), 8)
 
 
 class Sumo(SumoTest):

@@ -130,13 +130,19 @@ class Many(SumoTest):
         with mock.patch.object(Ways, "search", side_effect=AssertionError("routes are sought")):
             self.assertIn(
                 "there are 257 destinations, and at most 256 may be: give --destinations 256",
-                self.refused(**self.ring(257)),
+                self.refused("--history", "1", **self.ring(257)),
             )
 
     def test_destinations_without_a_circle_are_counted_behind(self) -> None:
         self.assertIn(
-            "there are 257 destinations, and at most 256 may be", self.refused(**self.ring(257, closed=False))
+            "there are 257 destinations, and at most 256 may be",
+            self.refused("--history", "1", **self.ring(257, closed=False)),
         )
+
+    def test_destinations_of_a_case_without_history(self) -> None:
+        case = self.made(**self.ring(257, closed=False))
+        self.assertEqual((len(case.destinations), case.setup.history), (257, False))
+        self.assertIn("too large for the history of a loading, with 257 destinations (at most 256)", self.out)
 
     def test_trips_without_a_route_do_not_count(self) -> None:
         """257 ends, to one of which no way leads, and one where a trip begins: 255 destinations."""
@@ -219,13 +225,16 @@ class Sizes(SumoTest):
 
     def test_slices(self) -> None:
         """Without asking those of up to 15 minutes of demand and 30 of splits, then all with as many rows as may be
-        asked for; one that is asked for alone."""
+        asked for, and the longest with as many as there may be without history; one that is asked for alone."""
         self.assertEqual(
-            rows.slices_tried("splits", None, 9),
+            rows.slices_tried("splits", None, 9, 500_000),
             [(15, 9), (20, 9), (30, 9), *((size, 500_000) for size in (15, 20, 30, 60, 120))],
         )
-        self.assertEqual(rows.slices_tried("demand", None, 9)[4:8], [(10, 9), (15, 9), (1, 500_000), (2, 500_000)])
-        self.assertEqual(rows.slices_tried("demand", 60, 9), [(60, 9), (60, 500_000)])
+        self.assertEqual(
+            rows.slices_tried("demand", None, 9, 500_000)[4:8], [(10, 9), (15, 9), (1, 500_000), (2, 500_000)]
+        )
+        self.assertEqual(rows.slices_tried("demand", 60, 9, 500_000), [(60, 9), (60, 500_000)])
+        self.assertEqual(rows.slices_tried("splits", None, 9, 8_000_000)[-2:], [(120, 500_000), (120, 8_000_000)])
 
 
 if __name__ == "__main__":

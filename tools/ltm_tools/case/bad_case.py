@@ -239,7 +239,8 @@ def asking(column: str, size: int, setup: Setup, number: int | None = None) -> s
     if size <= asked:
         return f"write {number or f'up to {asked}'} in the column {column} of setup.csv; or "
     if size <= without:
-        return f"write {number or f'up to {without}'} in the column {column} of setup.csv and 0 in history, {WITHOUT_HISTORY}; or "
+        many = number or f"up to {without}"
+        return f"write {many} in the column {column} of setup.csv and 0 in history, {WITHOUT_HISTORY}; or "
     return ""
 
 

@@ -3,7 +3,7 @@ the memory that they and the table of what origins have produced take."""
 from fractions import Fraction
 
 from ..errors import TooLarge
-from ..formats import MINUTE_MS, MOST_CELLS, MOST_CELLS_ASKED, MOST_STEP_MS, count_text
+from ..formats import MINUTE_MS, MOST_CELLS, MOST_CELLS_ASKED, MOST_DESTINATIONS_ASKED, MOST_STEP_MS, count_text
 from .rows import Rows
 
 ROUNDED_TO = 1_000_000
@@ -49,14 +49,19 @@ def cells_in(memory: int, produced: int) -> int:
     return max(0, int((memory - SESSION_TABLES * produced) // SESSION_BYTES[1]))
 
 
-def ask_for_cells(case: Rows) -> str:
-    """The cells of a case in a line; its setup asks for them where they are more than it may have without. A Fault with
-    what would fit where they are more than may be asked for."""
+def ask_for_cells(case: Rows, history: bool | None = True) -> str:
+    """The cells of a case in a line; its setup asks for them where they are more than it may have without. Where they
+    are more than may be asked for, the case keeps no history; or TooLarge with what would fit, where it is to keep
+    one."""
     cells = case.cells()
     if cells > MOST_CELLS_ASKED:
-        raise TooLarge(
-            f"{count_text(cells)} cells, and at most {count_text(MOST_CELLS_ASKED)} may be: {cells_advice(case)}"
-        )
+        if history:
+            raise TooLarge(
+                f"{count_text(cells)} cells, and at most {count_text(MOST_CELLS_ASKED)} may be: {cells_advice(case)}"
+            )
+        case.setup.history = False
+    if not case.setup.history:
+        return f"{count_text(cells)} cells, of which no history is kept"
     if cells <= MOST_CELLS:
         return f"{count_text(cells)} cells of at most {count_text(MOST_CELLS)}"
     case.setup.cells = asked_for(cells)
@@ -84,7 +89,7 @@ def cells_advice(case: Rows) -> str:
     )
     if longer:
         told.append(f"--fit {longer} at this horizon")
-    ends = len(case.destinations) * fitting // slots
+    ends = min(MOST_DESTINATIONS_ASKED, len(case.destinations) * fitting // slots)
     if ends:
         told.append(f"--destinations {ends} at both")
     return " or ".join(told) or "cut out a smaller area"

@@ -31,10 +31,10 @@ class NoHistory(Fault):
     """What was asked for needs the history of a loading, and the case keeps none."""
 
 
-def too_large(case: Rows) -> list[str]:
+def too_large(case: Rows, rows: int | None = None) -> list[str]:
     """In what a case is larger than one with a history may be: `1,117 destinations (at most 256)`; nothing where it
-    could have one."""
-    rows = max(len(case.standing_demand()), len(case.standing_splits()))
+    could have one. It has or will have so many rows, and without a number those that stand."""
+    rows = max(len(case.standing_demand()), len(case.standing_splits())) if rows is None else rows
     sizes = (
         (len(case.links), "link", MOST_LINKS_ASKED),
         (len(case.destinations), "destination", MOST_DESTINATIONS_ASKED),

@@ -116,6 +116,13 @@ def add_counting_arguments(group: argparse._ArgumentGroup) -> None:
         ),
     )
     group.add_argument(
+        "--history",
+        type=int,
+        choices=(0, 1),
+        help="whether the case keeps the history of its loading, which the live map and all sessions need: 1 refuses a"
+        " case that is too large for it, 0 keeps none (default: 1 if it is not too large)",
+    )
+    group.add_argument(
         "--carry",
         type=int,
         choices=(0, 1),
@@ -338,6 +345,7 @@ def network_options(args: argparse.Namespace) -> dict[str, Any]:
         "moves": None if args.moves is None else args.moves == 1,
         "entries": args.entries == "links",
         "carry": args.carry == 1,
+        "history": None if args.history is None else args.history == 1,
     }
 
 

@@ -80,7 +80,7 @@ def import_gmns(folder: str | os.PathLike[str], options: GmnsOptions = GmnsOptio
     """The case of the network in a folder; NotCarried with all that a case cannot have."""
     asked = read_all(Path(folder), options, options.crossings.turns != "none")
     read, raw = asked.read, asked.raw
-    check_ends(asked.volumes)
+    check_ends(asked.volumes, options)
     routes = (
         least_routes(raw, [(*ends, whole_units(volume, "demand")) for ends, volume in asked.volumes.items()])
         if options.fit
@@ -95,7 +95,7 @@ def import_gmns(folder: str | os.PathLike[str], options: GmnsOptions = GmnsOptio
     case, last = case_of(made, asked.volumes, options, parts)
     limit_yields(case, made.source, asked.yields, options.crossings.slice_minutes)
     turns = None if asked.turned is None else turns_of_case(made, asked.turned, case, options.crossings, read)
-    sizes = [*ask_for_sizes(case, options.moves), *fewer_turns(asked, len(case.links), False)]
+    sizes = [*ask_for_sizes(case, options.moves, options.history), *fewer_turns(asked, len(case.links), False)]
     places, lost = places_of(made, Map(crs=read.units.crs or (DEGREES if read.units.places == "degrees" else None)))
     told = [
         *read.guesses,
@@ -158,7 +158,7 @@ def read_all(folder: Path, options: GmnsOptions, turning: bool = False) -> Asked
     amounts = amounts_of(folder, options)
     if options.destinations is None and not options.leave_out_unreached:
         most = destinations_that_fit(read.network, options.horizon * MINUTE_MS, options.fit or options.step)
-        check_ends(pairs_of(read.network, amounts), most)  # before it is seen where ways lead
+        check_ends(pairs_of(read.network, amounts), options, most)  # before it is seen where ways lead
     ends = trip_ends(read.network, amounts)
     turned, yields = turn(folder, read, *ends, amounts, options) if turning else (None, [])
     entries = enter_zones(read.network, amounts, options, read.notes) if options.entries else frozenset()

@@ -62,8 +62,8 @@ def loaded_by_destination(folder: str, curves: str | None, named: str | None) ->
 
 
 def made_by_program(case: Case, folder: str, named: str | None) -> LoadedCase:
-    """The case with the curves of its loading: as a session tells them, or `ltm totals` where no history is kept, else as
-    `ltm curves` writes them."""
+    """The case with the curves of its loading: as a session tells them, or `ltm totals` where no history is kept, else
+    as `ltm curves` writes them."""
     if not case.setup.history:
         return LoadedCase(case, loading_of_totals(case, folder, named))
 

@@ -14,8 +14,7 @@ from ..formats import (
     MINUTE_MS,
     MOST_CELLS_ASKED,
     MOST_DESTINATIONS_ASKED,
-    MOST_LINKS_ASKED,
-    MOST_ROWS_ASKED,
+    MOST_FILE_BYTES,
     MOST_SLOTS,
     MOST_SLOT_UNITS,
     MOST_STEP_MS,
@@ -32,6 +31,8 @@ from .steps import fit_advice
 
 MOST_TOLD = 20
 """The most lines about faults of one kind."""
+LEAST_ROW_BYTES = 8
+"""Of a row of demand beside its names: `,,0,1,1` and its end."""
 
 
 class NotCarried(Fault):
@@ -92,9 +93,9 @@ def carried(raw: Network, options: Options, routes: Iterable[tuple[tuple[str, ..
     if fit and options.balance:
         balance(fit, used_routes(fit, routes))
     faults = arm_faults(network)
-    if len(network.roads) > MOST_LINKS_ASKED:
+    if len(network.roads) > options.most_links:
         faults.append(
-            f"there are {len(network.roads)} links, and at most {MOST_LINKS_ASKED} may be: cut out a smaller"
+            f"there are {len(network.roads)} links, and at most {options.most_links} may be: cut out a smaller"
             f" area, or leave out small roads"
         )
     link_names, node_names = names_for(network.roads, options.rename), names_for(network.used_nodes(), options.rename)
@@ -232,26 +233,35 @@ def destinations_that_fit(
     return max(1, min(MOST_DESTINATIONS_ASKED, (cells - one) // (two - one) + 1))
 
 
-def check_destinations(nodes: Iterable[str], most: int = MOST_DESTINATIONS_ASKED) -> None:
-    """A Fault where destinations are too many; `most` are advised, as more would be refused for their cells."""
-    ends = list(dict.fromkeys(nodes))
-    if len(ends) > MOST_DESTINATIONS_ASKED:
-        less = "" if most == MOST_DESTINATIONS_ASKED else f" (about {most} fit into the cells that a case may have)"
+def check_destinations(nodes: Iterable[str], options: Options, fitting: int | None = None) -> None:
+    """A Fault where destinations are too many. Of a case that is to keep a history so many are advised as fit into its
+    cells."""
+    ends, allowed = list(dict.fromkeys(nodes)), options.most_destinations
+    if len(ends) > allowed:
+        most = min(allowed, fitting or allowed) if options.history else allowed
+        less = "" if most == allowed else f" (about {most} fit into the cells that a case may have)"
         raise TooLarge(
-            f"there are {len(ends)} destinations, and at most {MOST_DESTINATIONS_ASKED} may be: give"
+            f"there are {len(ends)} destinations, and at most {allowed} may be: give"
             f" --destinations {most}{less},"
             f" which keeps those with most vehicles, and lets the other trips end at the nearest of them; past"
             f" these are the nodes {', '.join(ends[most:most + 10])}"
         )
 
 
-def check_ends(pairs: Collection[tuple[str, str]], most: int = MOST_DESTINATIONS_ASKED) -> None:
+def check_ends(pairs: Collection[tuple[str, str]], options: Options, fitting: int | None = None) -> None:
     """A Fault where the destinations of these pairs of origin and destination are too many, or the pairs, each of which
-    has a row of demand."""
-    check_destinations((end for _, end in pairs), most)
-    if len(pairs) > MOST_ROWS_ASKED:
+    has a row of demand: so many of them, or so long that they are in no file that is read."""
+    check_destinations((end for _, end in pairs), options, fitting)
+    if len(pairs) > options.most_rows:
         raise TooLarge(
             f"there are {count_text(len(pairs))} pairs of origin and destination, and at most"
-            f" {count_text(MOST_ROWS_ASKED)} rows of demand may"
+            f" {count_text(options.most_rows)} rows of demand may"
             " be: give fewer --destinations, or join nodes where trips begin"
+        )
+    size = sum(len(start) + len(end) for start, end in pairs) + LEAST_ROW_BYTES * len(pairs)
+    if size > MOST_FILE_BYTES and not options.rename:
+        raise TooLarge(
+            f"{count_text(len(pairs))} pairs of origin and destination make a demand.csv of about"
+            f" {count_text(size)} bytes or more, and at most {count_text(MOST_FILE_BYTES)} are read: give fewer"
+            " --destinations, or join nodes where trips begin"
         )

@@ -10,7 +10,7 @@ from typing import ClassVar
 
 from ..case import Case, Demand, Setup
 from ..errors import Fault
-from ..formats import MINUTE_MS, MOST_ROWS_ASKED, UNITS, many, short_vehicles
+from ..formats import MINUTE_MS, UNITS, many, short_vehicles
 from ..tables import Reading
 from ..demand.profiles import Part, by_profile, read_profile
 from ..demand.values import summed_units, whole_units
@@ -55,7 +55,7 @@ def case_of(
     amounts = zip(volumes, summed_units(volumes.values()))
     units = {(made.node(start), made.node(end)): amount for (start, end), amount in amounts}
     rows: Iterable[Demand] = by_profile(
-        {ends: amount for ends, amount in units.items() if amount}, parts, MOST_ROWS_ASKED
+        {ends: amount for ends, amount in units.items() if amount}, parts, options.most_rows
     )
     return Case(setup, made.links, list(rows)), parts[-1].to_slot
 

@@ -4,7 +4,17 @@ from __future__ import annotations
 from dataclasses import dataclass
 from typing import ClassVar
 
-from ..formats import MOST_DESTINATIONS_ASKED, MOST_SLOT_UNITS, MOST_STEP_MS, UNITS
+from ..formats import (
+    MOST_DESTINATIONS_ASKED,
+    MOST_DESTINATIONS_NO_HISTORY,
+    MOST_LINKS_ASKED,
+    MOST_LINKS_NO_HISTORY,
+    MOST_ROWS_ASKED,
+    MOST_ROWS_NO_HISTORY,
+    MOST_SLOT_UNITS,
+    MOST_STEP_MS,
+    UNITS,
+)
 from .bad_option import BadOption
 from .crossings.options import CrossingOptions
 
@@ -31,6 +41,9 @@ class Options:
     """Whether what moves through a turn is floored for the turn, and not for each destination; without it, where there
     are more than 16."""
 
+    history: bool | None = None
+    """Whether the case keeps the history of its loading, as sessions need it, and is refused where it is too large for
+    that; without it, where it is not."""
     carry: bool = True
     """Whether what is left over of a capacity, rounded down in a slot, is carried to the next."""
     entries: bool = True
@@ -40,7 +53,7 @@ class Options:
 
     RANGES: ClassVar[dict[str, tuple[int, int | None]]] = {
         "origin_capacity": (1, MOST_SLOT_UNITS // UNITS),
-        "destinations": (1, MOST_DESTINATIONS_ASKED),
+        "destinations": (1, MOST_DESTINATIONS_NO_HISTORY),
         "fit": (1, MOST_STEP_MS),
         "step": (1, MOST_STEP_MS),
         "least_step": (1, MOST_STEP_MS),
@@ -51,3 +64,20 @@ class Options:
             value = getattr(self, name)
             if value is not None and not (least <= value and (most is None or value <= most)):
                 raise BadOption(name, f"is at least {least}" if most is None else f"is {least} to {most}")
+        if self.destinations is not None and self.destinations > self.most_destinations:
+            raise BadOption("destinations", f"is 1 to {self.most_destinations} with --history 1")
+
+    @property
+    def most_destinations(self) -> int:
+        """How many destinations the case may have."""
+        return MOST_DESTINATIONS_ASKED if self.history else MOST_DESTINATIONS_NO_HISTORY
+
+    @property
+    def most_links(self) -> int:
+        """How many links it may have."""
+        return MOST_LINKS_ASKED if self.history else MOST_LINKS_NO_HISTORY
+
+    @property
+    def most_rows(self) -> int:
+        """How many rows of demand it may have, and of splits."""
+        return MOST_ROWS_ASKED if self.history else MOST_ROWS_NO_HISTORY

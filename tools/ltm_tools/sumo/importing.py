@@ -77,10 +77,11 @@ def import_sumo(net: StrPath, files: Iterable[StrPath] = (), options: SumoOption
     have."""
     paths = tuple(files)
     asked = read_all(net, paths, options, True)
-    try:
-        return import_asked(asked, options)
+    apart = bool(asked.own.edges or asked.begins.parts)
+    try:  # rather than with an end for each edge and no history, with ends at nodes
+        return import_asked(asked, replace(options, history=True) if apart and options.history is None else options)
     except TooLarge as fault:
-        if not asked.own.edges and not asked.begins.parts:
+        if not apart:
             raise
         crossings = replace(options.crossings, origins="turns") if asked.begins.parts else options.crossings
         made = import_sumo(net, paths, replace(options, ends="node", crossings=crossings))
@@ -95,7 +96,7 @@ def import_asked(asked: Asked, options: SumoOptions) -> Imported:
     """The case of what was read."""
     inputs = asked.inputs
     check_losses(inputs, options)
-    check_ends(asked.ends())
+    check_ends(asked.ends(), options)
     routes = list(units_by_links(inputs.routes).items())
     try:
         made = carried(asked.raw, options, routes)
@@ -111,7 +112,7 @@ def import_asked(asked: Asked, options: SumoOptions) -> Imported:
     source = whole_edges(whole_again(source, asked.cut), made.source, asked.begins)
     streets = {**streets_of_parts(made, asked), **street_names(source, inputs.net.streets, turns)}
     check_greens(case, driven, turns, streets, inputs, options.allow_losses)
-    sizes = [*ask_for_sizes(case, options.moves), *fewer_turns(asked.turned, len(case.links), False)]
+    sizes = [*ask_for_sizes(case, options.moves, options.history), *fewer_turns(asked.turned, len(case.links), False)]
     places, lost = places_of(made, inputs.net.drawn)
     told = [
         *size_told(case, inputs),

@@ -156,7 +156,7 @@ def find_routes(inputs: Inputs, options: SumoOptions) -> None:
     if options.destinations is None:
         last = options.horizon or 120
         most = destinations_that_fit(net, last * MINUTE_MS, options.fit or options.step)
-        check_ends(sure_ends(found.vehicles, ways, net), most)
+        check_ends(sure_ends(found.vehicles, ways, net), options, most)
     trips = [one for one in found.vehicles if not one.whole and all(name in net.roads for name in one.edges)]
     legs = ways.legs(leg for one in trips for leg in zip(one.edges, one.edges[1:]))
     routed = 0

@@ -59,7 +59,7 @@ def case_of(
     slots = horizon_slots(horizon_ms(inputs, options), made.step)
     case = Case(Setup(made.step, slots, options.origin_capacity * UNITS, carry=options.carry), made.links)
     case.demand = demand_of(routes, case, inputs, options)
-    ask_for_cells(case)  # before the splits take their time
+    ask_for_cells(case, options.history)  # before the splits take their time
     case.splits = splits_of(routes, case, inputs, options)
     case.signals = signals_of(made, inputs, held, cut, case, options)
     case.setup.signals = bool(case.signals)
@@ -75,7 +75,7 @@ def demand_of(routes: list[Route], case: Case, inputs: Inputs, options: SumoOpti
         if route.links
     ]
     fault: Fault | None = None
-    for minutes, most in slices_tried("demand", options.demand_slice, MOST_DEMAND_ROWS):
+    for minutes, most in slices_tried("demand", options.demand_slice, MOST_DEMAND_ROWS, options.most_rows):
         try:
             rows, late = by_trips(
                 trips,
@@ -102,7 +102,7 @@ def splits_of(routes: list[Route], case: Case, inputs: Inputs, options: SumoOpti
     made: dict[int, tuple[list[Split], Cuts]] = {}
     rows: list[Split] = []
     most = MOST_SPLIT_ROWS
-    for minutes, most in slices_tried("splits", options.slice, MOST_SPLIT_ROWS):
+    for minutes, most in slices_tried("splits", options.slice, MOST_SPLIT_ROWS, options.most_rows):
         if minutes not in made:
             made[minutes] = from_routes(
                 case.links,
@@ -126,12 +126,13 @@ def splits_of(routes: list[Route], case: Case, inputs: Inputs, options: SumoOpti
     )
 
 
-def slices_tried(what: str, asked: int | None, most: int) -> list[tuple[int, int]]:
-    """The minutes of slices to try, in order, and how many rows there may be with each: without asking, and by asking
-    for more."""
+def slices_tried(what: str, asked: int | None, most: int, largest: int) -> list[tuple[int, int]]:
+    """The minutes of slices to try, in order, and how many rows there may be with each: without asking, by asking for
+    more, and with the longest ones as many as there may ever be."""
     sizes = (asked,) if asked else tuple(size for size in SLICES if what == "demand" or size >= 15)
     free = [size for size in sizes if asked or size <= LONGEST_FREE[what]]
-    return [*((size, most) for size in free), *((size, MOST_ROWS_ASKED) for size in sizes)]
+    asking = [(size, MOST_ROWS_ASKED) for size in sizes]
+    return [*((size, most) for size in free), *asking, *([(sizes[-1], largest)] if largest > MOST_ROWS_ASKED else [])]
 
 
 def signals_of(

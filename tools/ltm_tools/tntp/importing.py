@@ -9,7 +9,7 @@ from typing import ClassVar
 from ..case.places import DEGREES
 from ..case.sizes import ask_for_sizes
 from ..errors import Fault
-from ..formats import MINUTE_MS, MOST_JAM_PER_KM, MOST_LINKS_ASKED, agreeing, count_text, counted
+from ..formats import MINUTE_MS, MOST_JAM_PER_KM, agreeing, count_text, counted
 from ..network.bad_option import BadOption
 from ..network.centroids import part_node
 from ..network.changes import changes_told
@@ -89,7 +89,7 @@ def import_tntp(
     made = carried(raw, options, routes)
     parts, clock = departure_parts(options, made.step, asked.notes)
     case, last = case_of(made, asked.volumes, options, parts)
-    sizes = ask_for_sizes(case, options.moves)
+    sizes = ask_for_sizes(case, options.moves, options.history)
     places, lost = places_of(made, Map(crs=DEGREES if asked.in_degrees else None))
     told = [
         *asked.notes,
@@ -116,10 +116,10 @@ def read_all(net: StrPath, trips: StrPath, nodes: StrPath | None, options: TntpO
     """The network and its demand by nodes."""
     paths = [existing(path) for path in (net, trips)]
     read = read_net(paths[0])
-    if len(read.links) > MOST_LINKS_ASKED:
+    if len(read.links) > options.most_links:
         raise Fault(
-            f"{net}: {count_text(len(read.links))} links, and at most {count_text(MOST_LINKS_ASKED)} may be: cut out a"
-            f" smaller area"
+            f"{net}: {count_text(len(read.links))} links, and at most {count_text(options.most_links)} may be: cut out"
+            f" a smaller area"
         )
     places = {} if nodes is None else read_places(existing(nodes))
     in_degrees = bool(places) and unit_by_range(places.values()) == "degrees"
@@ -132,13 +132,13 @@ def read_all(net: StrPath, trips: StrPath, nodes: StrPath | None, options: TntpO
     place_zones(asked.network, read, asked.notes)
     if options.destinations is None and not options.leave_out_unreached:
         most = destinations_that_fit(asked.network, options.horizon * MINUTE_MS, options.fit or options.step)
-        check_ends(pairs_of(asked.network, amounts), most)
+        check_ends(pairs_of(asked.network, amounts), options, most)
     if options.entries:
         asked.entries = enter_zones(asked.network, amounts, options, asked.notes)
     asked.volumes = by_node(asked.network, amounts, options.leave_out_unreached, asked.notes)
     if options.destinations is not None and asked.volumes:
         asked.volumes = fewer_ends(asked.network, asked.volumes, options.destinations, asked.notes)
-    check_ends(asked.volumes)
+    check_ends(asked.volumes, options)
     asked.network.ends = {node for ends in asked.volumes for node in ends}
     return asked
 
