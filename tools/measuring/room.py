@@ -20,13 +20,14 @@ ENDS = ("--ends", "node")  # one for each node, so that the region has 12 destin
 @dataclass(frozen=True)
 class Room:
     """A folder to work in; the program, the plain engine where there is one, how much memory runs may take, in MB, and
-    in how many iterations a city is assigned."""
+    in how many iterations a city is assigned; and which shapes of networks are measured, all where none is named."""
 
     folder: Path
     program: Path
     plain: Path | None
     memory: float
     iterations: int = 20
+    shapes: tuple[str, ...] = ()
 
     def tool(self, *words: str | Path) -> Cost:
         """What a command of the tools costs, with all that it starts."""

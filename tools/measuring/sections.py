@@ -1,5 +1,5 @@
 """The sections of the page, in order."""
-from . import answers, cities, panning, speeds, towns
+from . import answers, cities, panning, shapes, speeds, towns
 from .page import Section
 
 SECTIONS = (
@@ -62,6 +62,15 @@ SECTIONS = (
         "[`assign`](ASSIGN.md) of the [city](../examples/assign/README.md) `large`, which has as many zones and links "
         "as the test network of Winnipeg. The clock counts here, so run it on a machine that does nothing else.",
         cities.city,
+    ),
+    Section(
+        "shapes",
+        "As large as public test networks",
+        "Made networks with as many zones, nodes and links as networks of the Transportation Networks collection "
+        "([`shapes.py`](../examples/from_tntp/shapes.py)), with trips of an hour over a horizon of two, fitted to a "
+        "step of 10 s; `load`, `delay` and `gap` by the fastest routes, and one iteration of [`assign`](ASSIGN.md). What is "
+        "too large is refused, with the reason.",
+        shapes.shapes,
     ),
     Section(
         "sweep",

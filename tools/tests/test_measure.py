@@ -8,7 +8,8 @@ from made_live import needs_live
 from support import BUILT, CLONE, FolderTest, needs, needs_numpy, needs_program, script
 from ltm_tools.case import Case
 from ltm_tools.errors import Fault
-from measuring import cities, page, panning, runs, speeds, tables
+from ltm_tools.tntp.reading import read_net, read_trips
+from measuring import cities, page, panning, runs, shapes, speeds, tables
 from measuring.made import Made, closures
 from measuring.page import Section
 from measuring.room import Room
@@ -74,6 +75,63 @@ class Moving(FolderTest):
         self.assertTrue(0 < first <= there and server > 0 and program >= 0, cells)
         for rate, longest in zip(moves[::2], moves[1::2]):
             self.assertGreaterEqual(longest * rate, 995)  # 1,000 / rate is what a frame takes in the mean
+
+
+class Shapes(FolderTest):
+    def test_each_has_the_size_that_it_is_to_have(self) -> None:
+        """Zones, nodes and links as in the list, each link once, and all nodes joined both ways."""
+        made = shapes.made_by()
+        for name, shape in made.SHAPES.items():
+            links = made.links_of(shape)
+            connectors = 2 * shape.zones if shape.nodes > shape.zones else 0
+            self.assertEqual((len(links) + connectors, len(set(links))), (shape.links, len(links)), name)
+            self.assertEqual({end for link in links for end in link}, set(range(shape.junctions)), name)
+            self.assertLessEqual(len(set(links) - {(head, tail) for tail, head in links}), 1, name)
+
+    def test_roads_are_used_for_a_part_of_their_capacity(self) -> None:
+        """Of all vehicle kilometres in an hour by the shortest ways on the grid, and a block more for each trip."""
+        made = shapes.made_by()
+        shape = made.SHAPES["anaheim"]
+        trips = made.trips_of(shape)
+        places = [shape.place(shape.junction_of(zone)) for zone in range(shape.zones)]
+        driven = sum(
+            trips[one][other] * (abs(places[one][0] - places[other][0]) + abs(places[one][1] - places[other][1]) + 1)
+            for one in range(shape.zones)
+            for other in range(shape.zones)
+        )
+        lanes = sum(2 if made.is_main(shape, link) else 1 for link in made.links_of(shape))
+        self.assertAlmostEqual(driven / (lanes * 1_800), made.USED, places=4)
+
+    def test_the_files_are_those_of_the_shape(self) -> None:
+        status = shapes.made_by().main(["sioux_falls", str(self.folder)])
+        self.assertEqual(status, 0)
+        net = read_net(self.folder / "sioux_falls_net.tntp")
+        self.assertEqual((net.zones, len(net.links), net.first_through), (24, 76, 1))
+        amounts, total = read_trips(self.folder / "sioux_falls_trips.tntp")
+        self.assertEqual((len(amounts.volumes), sum(amounts.volumes.values())), (24 * 23, total))
+
+    @needs_numpy
+    @needs_program
+    def test_a_small_one_and_one_that_is_refused(self) -> None:
+        room = Room(self.folder, BUILT, None, 1000.0)
+        with (
+            mock.patch("sys.stderr"),
+            mock.patch.dict("os.environ", {"LTM": str(BUILT)}),
+            mock.patch.object(shapes, "WORDS", (*shapes.WORDS[:-1], "70")),
+        ):
+            small = shapes.table_of(room, ("sioux_falls",))
+        ((name, size, sizes, history, *costs),) = small.rows
+        self.assertEqual((name, size, sizes, history), ("sioux_falls", "24, 24, 76", "109, 24, 420", "kept"))
+        self.assertTrue(all(float(cost.split()[0]) > 0 and cost.endswith(" MB") for cost in costs), costs)
+        with mock.patch("sys.stderr"), mock.patch.object(shapes, "WORDS", ("--destinations", "2001")):
+            none = shapes.table_of(room, ("sioux_falls",))
+        self.assertEqual(none.rows, [("sioux_falls", "24, 24, 76", *["-"] * 7)])
+        self.assertEqual(
+            none.remarks[1],
+            "sioux_falls is refused: the import ended with status 1: ltm-tools from-tntp: --destinations is 1 to 2000.",
+        )
+        with self.assertRaisesRegex(Fault, "paris is no shape: sioux_falls, "):
+            shapes.shapes(Room(self.folder, BUILT, None, 1000.0, shapes=("paris",)))
 
 
 class Cities(FolderTest):
