@@ -12,6 +12,7 @@ from .errors import Fault
 
 # files, in bytes
 MOST_FILE_BYTES = 16_777_216
+MOST_LARGE_FILE_BYTES = 268_435_456  # of demand and of splits, with more rows than a case with a history may have
 MOST_CURVES_BYTES = 268_435_456
 MOST_COUNT = 281_474_976_710_656  # of a curve file, in thousandths of a vehicle
 

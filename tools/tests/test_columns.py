@@ -7,6 +7,7 @@ null where a file is missing, and by command the status and the line of an engin
 column `history`, were worked out by hand after docs/FORMATS.md.
 """
 import json
+import os
 import random
 import subprocess
 import unittest
@@ -232,6 +233,29 @@ class Columns(ColumnsTest):
             self.made(files | {"setup": f"step_ms,slots,origin_capacity,carry\n1000,12,1,{carry}\n"})
             fault = self.fault("routes")
             self.assertEqual(fault and fault.line(), "bad case links row 2 CapacityOver" if carry else None)
+
+    def test_longer_files_where_many_rows_are_asked_for(self) -> None:
+        """Of demand and of splits, not of others; a setup that is wrong asks for nothing."""
+        setup = "step_ms,slots,origin_capacity,rows,history\n1000,12,1,{},0\n"
+        for rows, file, line in (
+            (500_001, "demand", None),
+            (500_001, "splits", None),
+            (500_001, "links", "too long links"),
+            (500_000, "demand", "too long demand"),
+            (500_000, "splits", "too long splits"),
+            (8_000_001, "splits", "too long splits"),
+        ):
+            self.made({"setup": setup.format(rows), "signals": None, "limits": None})
+            path = self.folder / f"{file}.csv"
+            path.write_bytes(path.read_bytes() + b"\n" * MOST_FILE_BYTES)
+            fault = self.fault("load")
+            with self.subTest(rows, file=file):
+                self.assertEqual(fault and fault.line(), line)
+                if os.access(BUILT, os.X_OK):
+                    run = subprocess.run([BUILT, "load"], cwd=self.folder, capture_output=True, text=True)
+                    self.assertEqual(
+                        (run.returncode, run.stdout.split("\n")[0] == line), (7 if line else 0, bool(line))
+                    )
 
     def test_any_number_of_cells_without_history(self) -> None:
         setup = "step_ms,slots,origin_capacity,cells,history\n1000,12,1,1479,{}\n"

@@ -1,6 +1,8 @@
 """A case that is loaded anew whenever its shares or limits have changed, by `ltm totals`, which keeps no history."""
 from __future__ import annotations
 
+from dataclasses import replace
+
 import numpy
 
 from ..case import Limit
@@ -52,7 +54,9 @@ class Anew(Engine):
         lines = shares.lines()
         if lines == self.shares.pieces:
             return False
-        check_size(sum(piece.count(b"\n") for piece in lines), sum(map(len, lines)), self.case.setup.rows_asked)
+        setup = replace(self.case.setup, rows=self.case.setup.rows_asked)
+        rows, size = sum(piece.count(b"\n") for piece in lines), sum(map(len, lines))
+        check_size(rows, size, setup.most_split_rows, setup.most_file_bytes)
         write_split_lines(self.folder.name, lines)
         self.shares, self.loaded = LineShares(lines), None
         return True

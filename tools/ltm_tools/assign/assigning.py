@@ -227,7 +227,8 @@ class Assignment:
 
     def best_case(self) -> Case:
         """The case with the best shares."""
-        return case_with(self.case, split_rows(self.best_shares.rows()))
+        setup = self.case.setup
+        return case_with(self.case, split_rows(self.best_shares.rows()), None if setup.history else setup.rows_asked)
 
 
 def ends_at_once(net: Net, processes: int) -> int:

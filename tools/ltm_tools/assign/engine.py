@@ -87,9 +87,9 @@ class Engine(ABC):
         return 100 * gap.gap / gap.spent if gap.spent else 0.0
 
 
-def check_size(rows: int, size: int = 0, most_rows: int = MOST_ROWS_ASKED) -> None:
+def check_size(rows: int, size: int = 0, most_rows: int = MOST_ROWS_ASKED, most_bytes: int = MOST_FILE_BYTES) -> None:
     """A Fault where shares take more split rows, or bytes, than a case may have."""
-    for found, most, what in ((rows, most_rows, "split rows"), (size, MOST_FILE_BYTES, "bytes of split rows")):
+    for found, most, what in ((rows, most_rows, "split rows"), (size, most_bytes, "bytes of split rows")):
         if found > most:
             raise Fault(
                 f"the shares take {count_text(found)} {what}, and at most {count_text(most)} may be: give a longer"

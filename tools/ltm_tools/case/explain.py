@@ -28,6 +28,7 @@ from .case import Case
 from .cells import memory_text, produced_bytes
 from .curve_faults import find_fault
 from .history import NO_HISTORY, NO_HISTORY_LINE, to_have_one
+from .reading import longest_beside
 from .refusals import why_refused
 from .script import Line, line_text, parsed, read_line, script_lines
 from .usage import usage_fault
@@ -205,6 +206,8 @@ def too_much(folder: str, status: int, line: str, words: list[str]) -> Told:
     if name == line.strip():
         return []
     most = MOST_CURVES_BYTES if name == "curves" else MOST_FILE_BYTES
+    if name in ("demand", "splits"):
+        most = longest_beside(read_bytes(os.path.join(folder, "setup.csv")))
     path = os.path.join(folder, name + (".jsonl" if name.startswith("edits") else ".csv"))
     if not os.path.isfile(path) or os.path.getsize(path) <= most:
         return []

@@ -8,12 +8,12 @@ from . import bad_case
 from .bad_case import NoFile, TooLong
 
 
-def fetch(folder: str | os.PathLike[str], file: str) -> bytes:
-    """The bytes of a file of a case."""
+def fetch(folder: str | os.PathLike[str], file: str, most: int = MOST_FILE_BYTES) -> bytes:
+    """The bytes of a file of a case, at most so many."""
     path = os.path.join(folder, f"{file}.csv")
     try:
-        if os.path.getsize(path) > MOST_FILE_BYTES:
-            raise TooLong(file, os.path.getsize(path), MOST_FILE_BYTES)
+        if os.path.getsize(path) > most:
+            raise TooLong(file, os.path.getsize(path), most)
         with open(path, "rb") as opened:
             return opened.read()
     except FileNotFoundError:

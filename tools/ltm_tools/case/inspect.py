@@ -6,6 +6,7 @@ from ..files import records
 from ..formats import (
     ANSWERING,
     MOST_CELLS_ASKED,
+    MOST_FILE_BYTES,
     MOST_SLOTS,
     clock_text,
     count_text,
@@ -49,7 +50,9 @@ def read_loosely(folder: str) -> Case:
         if getattr(reader.case.setup, file, True) is False:
             continue
         try:
-            found = list(records(fetch(folder, file)))
+            large = file in ("demand", "splits")
+            most = reader.case.setup.most_file_bytes if large else MOST_FILE_BYTES
+            found = list(records(fetch(folder, file, most)))
             width = read_header(file, found)
         except Fault:
             if file == "splits":

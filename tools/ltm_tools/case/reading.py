@@ -10,6 +10,7 @@ from ..files import records
 from ..formats import (
     HEADERS,
     MOST_CELLS_ASKED,
+    MOST_FILE_BYTES,
     MOST_IN,
     MOST_JAM_PER_KM,
     MOST_KMH,
@@ -21,7 +22,7 @@ from ..formats import (
     weights_or_none,
 )
 from . import bad_case
-from .bad_case import NoFile
+from .bad_case import BadCase, NoFile
 from .fields import check_width, fetch, name_in, read_header, units_in, whole_in
 from .rows import Demand, Limit, Link, Rows, Setup, Split
 from .valid import check_cells, check_routes, check_splits
@@ -51,10 +52,12 @@ def ranges(setup: Setup) -> dict[str, tuple[int, int]]:
 def read_case(folder: str | os.PathLike[str], *, splits: bool | None = None) -> Rows:
     """The valid case of a folder, or the first fault. With `splits` True a `splits.csv` is wanted, as by `load`; with
     False it is not looked at, and routes are asked for, as by `routes`; with None it may be missing."""
-    texts = {file: fetch(folder, file) for file in ("setup", "links", "demand")}
+    texts = {file: fetch(folder, file) for file in ("setup", "links")}
+    most = longest_beside(texts["setup"])
+    texts["demand"] = fetch(folder, "demand", most)
     if splits is not False:
         try:
-            texts["splits"] = fetch(folder, "splits")
+            texts["splits"] = fetch(folder, "splits", most)
         except NoFile as fault:
             if splits or not fault.missing:
                 raise
@@ -73,6 +76,15 @@ def read_case(folder: str | os.PathLike[str], *, splits: bool | None = None) -> 
         check_splits(case)
     check_cells(case)
     return case
+
+
+def longest_beside(setup: bytes) -> int:
+    """How many bytes the files of demand and of splits may have beside the bytes of a `setup.csv`, also of a faulty
+    one."""
+    try:
+        return read_setup(setup).most_file_bytes
+    except BadCase:
+        return MOST_FILE_BYTES
 
 
 def read_network(folder: str | os.PathLike[str]) -> Rows:

@@ -10,6 +10,8 @@ from ..formats import (
     MOST_DESTINATIONS,
     MOST_DESTINATIONS_ASKED,
     MOST_DESTINATIONS_NO_HISTORY,
+    MOST_FILE_BYTES,
+    MOST_LARGE_FILE_BYTES,
     MOST_LINKS,
     MOST_LINKS_ASKED,
     MOST_LINKS_NO_HISTORY,
@@ -77,6 +79,11 @@ class Setup:
     def rows_asked(self) -> int:
         """How many rows the column `rows` may ask for."""
         return MOST_ROWS_ASKED if self.history else MOST_ROWS_NO_HISTORY
+
+    @property
+    def most_file_bytes(self) -> int:
+        """How many bytes the files of demand and of splits may have, each."""
+        return MOST_LARGE_FILE_BYTES if self.most_demand_rows > MOST_ROWS_ASKED else MOST_FILE_BYTES
 
     @property
     def links_asked(self) -> int:

@@ -10,8 +10,10 @@ from ..formats import (
     MOST_DESTINATIONS,
     MOST_DESTINATIONS_ASKED,
     MOST_FILE_BYTES,
+    MOST_LARGE_FILE_BYTES,
     MOST_LINKS,
     MOST_LINKS_ASKED,
+    MOST_ROWS_ASKED,
     MOST_SPLIT_ROWS,
     SPLITS,
     WITHOUT_HISTORY,
@@ -26,6 +28,7 @@ from .valid import reached, route_rows
 from .writing import demand_records, split_line
 
 ROWS_ROUNDED_TO = 1_000
+READ = "are read"
 MOVES_ABOVE = 16
 """With more destinations than these an import lets what moves be floored for each turn."""
 
@@ -127,14 +130,21 @@ def ask_for_rows(case: Rows, demand: int, splits: int) -> list[str]:
             f" {'routes' if case.splits is None else 'splits'}, and at most"
             f" {count_text(most)} of each may be: take fewer destinations, or a smaller network"
         )
-    split_size = split_bytes(case) if case.splits is not None else route_bytes(case)
-    for file, size in (("demand", demand_bytes(case)), ("splits", split_size)):
-        if size > MOST_FILE_BYTES:
+    routes = case.splits is None
+    split_size = route_bytes(case) if routes else split_bytes(case)
+    large = MOST_FILE_BYTES if case.setup.history else MOST_LARGE_FILE_BYTES
+    files = (
+        ("demand", demand_bytes(case), large, READ),
+        ("splits", split_size, *((MOST_FILE_BYTES, "are written by ltm routes") if routes else (large, READ))),
+    )
+    for file, size, most, why in files:
+        if size > most:
             raise TooLarge(
-                f"{file}.csv would have {count_text(size)} bytes"
-                f"{' or more' * (file == 'splits' and case.splits is None)}, and at most"
-                f" {count_text(MOST_FILE_BYTES)} are read: take longer slices, shorter names, or fewer destinations"
+                f"{file}.csv would have {count_text(size)} bytes{' or more' * (why != READ)}, and at most"
+                f" {count_text(most)} {why}: take longer slices, shorter names, or fewer destinations"
             )
+        if size > MOST_FILE_BYTES:  # which a setup that asks for so many rows may have
+            rows = max(rows, MOST_ROWS_ASKED + ROWS_ROUNDED_TO)
     case.setup.rows = rows
     return [
         f"{count_text(demand)} rows of demand and {count_text(splits)} of"

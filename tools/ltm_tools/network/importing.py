@@ -14,7 +14,6 @@ from ..formats import (
     MINUTE_MS,
     MOST_CELLS_ASKED,
     MOST_DESTINATIONS_ASKED,
-    MOST_FILE_BYTES,
     MOST_SLOTS,
     MOST_SLOT_UNITS,
     MOST_STEP_MS,
@@ -31,8 +30,6 @@ from .steps import fit_advice
 
 MOST_TOLD = 20
 """The most lines about faults of one kind."""
-LEAST_ROW_BYTES = 8
-"""Of a row of demand beside its names: `,,0,1,1` and its end."""
 
 
 class NotCarried(Fault):
@@ -250,18 +247,11 @@ def check_destinations(nodes: Iterable[str], options: Options, fitting: int | No
 
 def check_ends(pairs: Collection[tuple[str, str]], options: Options, fitting: int | None = None) -> None:
     """A Fault where the destinations of these pairs of origin and destination are too many, or the pairs, each of which
-    has a row of demand: so many of them, or so long that they are in no file that is read."""
+    has a row of demand."""
     check_destinations((end for _, end in pairs), options, fitting)
     if len(pairs) > options.most_rows:
         raise TooLarge(
             f"there are {count_text(len(pairs))} pairs of origin and destination, and at most"
             f" {count_text(options.most_rows)} rows of demand may"
             " be: give fewer --destinations, or join nodes where trips begin"
-        )
-    size = sum(len(start) + len(end) for start, end in pairs) + LEAST_ROW_BYTES * len(pairs)
-    if size > MOST_FILE_BYTES and not options.rename:
-        raise TooLarge(
-            f"{count_text(len(pairs))} pairs of origin and destination make a demand.csv of about"
-            f" {count_text(size)} bytes or more, and at most {count_text(MOST_FILE_BYTES)} are read: give fewer"
-            " --destinations, or join nodes where trips begin"
         )
