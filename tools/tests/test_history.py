@@ -153,6 +153,7 @@ class Loadings(FolderTest):
                 arrived = [list(some.all_arrived()) for some in (one, curves)]
                 self.assertEqual(arrived[0], arrived[1])
                 self.assertEqual(one.report, curves.report)  # type: ignore[attr-defined]
+                self.assertEqual(one.totals, curves.totals)  # type: ignore[attr-defined]
                 ends = [totals_at_end(some, arrived[0][-1]) for some in (with_one, other)]
                 self.assertEqual(ends[0], ends[1])
                 with self.assertRaisesRegex(NoHistory, "which curves by destination need; it is small enough"):

@@ -139,6 +139,17 @@ class Many(SumoTest):
             self.refused("--history", "1", **self.ring(257, closed=False)),
         )
 
+    def test_more_cells_than_a_history_may_have(self) -> None:
+        """It asks for no cells, as none are kept."""
+        with (
+            mock.patch("ltm_tools.case.cells.MOST_CELLS_ASKED", 100),
+            mock.patch("ltm_tools.case.history.MOST_CELLS_ASKED", 100),
+            mock.patch("ltm_tools.case.cells.MOST_CELLS", 100),
+        ):
+            setup = self.made(**self.ring(3, closed=False)).setup
+        self.assertEqual((setup.history, setup.cells), (False, None))
+        self.assertIn("cells, of which no history is kept", self.out)
+
     def test_destinations_of_a_case_without_history(self) -> None:
         case = self.made(**self.ring(257, closed=False))
         self.assertEqual((len(case.destinations), case.setup.history), (257, False))
