@@ -68,8 +68,8 @@ SECTIONS = (
         "As large as public test networks",
         "Made networks with as many zones, nodes and links as networks of the Transportation Networks collection "
         "([`shapes.py`](../examples/from_tntp/shapes.py)), with trips of an hour over a horizon of two, fitted to a "
-        "step of 10 s; `load`, `delay` and `gap` by the fastest routes, and one iteration of [`assign`](ASSIGN.md). What is "
-        "too large is refused, with the reason.",
+        "step of 10 s; `load`, `delay` and `gap` by the fastest routes, and one iteration of [`assign`](ASSIGN.md). "
+        "What is too large is refused, with the reason.",
         shapes.shapes,
     ),
     Section(
