@@ -23,7 +23,6 @@ EXCEPT = {
     "226.80": "SUMO's hours of the town, with which tables of several pages compare",
     "293.86": "the same, microscopic",
     "208.13": "the town's hours by the default import, likewise",
-    "608.10": "Bologna's, likewise",
     "710.21": "SUMO's hours of Bologna with the vehicles of a case, likewise",
     "831.96": "the same, microscopic",
     "217.06": "what closing a road of the town costs, which the tutorial prints and a table of ASSIGN begins with",
