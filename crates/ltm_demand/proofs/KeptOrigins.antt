@@ -1,5 +1,5 @@
 -- What the origins of a demand keep.
-use Rattle.std.proofs.Common.{◌≡◌, ◌≢◌, ◌==◌, ℕ, ◌+◌, ◌<◌, ◌≤◌, ◌^◌, true, false, cond, zero, suc, List, [], ◌∷◌, ◌++◌, length, get_or, set, All, arith, refl, ap, sym, subst, ◌∙◌, inl, inr}
+use Rattle.std.proofs.Common.{◌≡◌, ◌≢◌, ◌==◌, ℕ, ◌+◌, ◌<◌, ◌≤◌, ◌^◌, Bool, true, false, cond, zero, suc, List, [], ◌∷◌, ◌++◌, length, get_or, set, All, arith, refl, ap, sym, subst, ◌∙◌, inl, inr}
 use Rattle.std.specs.List.Sorted.{IsStrictlySortedBy}
 use Rattle.std.proofs.lemmas.Bool.{cases_lt}
 use Rattle.std.proofs.lemmas.Bool.Decides.{nat_tests}
@@ -10,36 +10,36 @@ use Rattle.std.proofs.lemmas.List.{get_or-set_same, get_or-set_other, get_or_pas
 use Rattle.std.proofs.lemmas.List.Elements.{All-nil, All-filter}
 use Rattle.ltm_demand.specs.declared.row.DemandRow.{DemandRow}
 use Rattle.ltm_demand.specs.Rows.{OriginRoom, IsNoLess, room_at, edited_rows, with_amount, has_slots, before, standing, behind, IsDemandRow}
-use Rattle.ltm_demand.specs.Produced.{produced, part, joins, by_end, origin_part, origin_by_end}
-use Rattle.ltm_demand.specs.Productions.{ProductionData, told, no_table, IsShifted, IsRoomy, IsReached}
+use Rattle.ltm_demand.specs.Produced.{produced, part, joins, by_end, by_end_to, total, origin_part, origin_by_end}
+use Rattle.ltm_demand.specs.Productions.{ProductionData, seen, seen_by_end, told, no_table, IsShifted, IsRoomy, IsReached}
 use Rattle.ltm_demand.specs.Origins.{OriginData, no_origin, origin_at, rows_of, IsAlike}
 use Rattle.ltm_demand.specs.Kept.{AreDemandRows, IsKept, room_in, room_of}
 use Rattle.ltm_demand.specs.Places.{IsAt, IsGap}
 use Rattle.ltm_units.specs.Bounds.{most_amount, most_rows}
 use Rattle.ltm_demand.proofs.Told.{told_empty}
-use Rattle.ltm_demand.proofs.State.{IsWas, rows_edited, all_edited, all_shown, by_end_edited, part_was, origin_edited, origin_part_was, by_end_le, total_le}
+use Rattle.ltm_demand.proofs.State.{IsWas, rows_edited, all_edited, all_shown, seen_edited, seen_was, seen_le, origin_edited, origin_part_was, total_le}
 use Rattle.ltm_demand.proofs.Destinations.{origin_by_end_le}
 use Rattle.ltm_demand.proofs.Joined.{own_joined, set_joined, set_parted, parted_at, front, back}
 
-pub kept_nothing : (slots most : ℕ) → most ≤ most_rows → IsKept slots most 0 []
+pub kept_nothing : (slots most : ℕ) (tabled : Bool) → most ≤ most_rows → IsKept slots most tabled 0 []
 unfolding IsStrictlySortedBy
-kept_nothing slots most few = record {
+kept_nothing slots most tabled few = record {
   are_rows = record { ordered = tt; each = All-nil (IsDemandRow slots); few = omega arith; bounded = few };
   counted = refl;
   own = λ o. All-nil (λ r. r.origin.0 ≡ o);
-  reached = λ o. All-nil (IsReached no_table);
+  reached = λ o. All-nil (λ r. IsReached no_table (seen tabled r));
   each = λ o d t. told_empty no_table (d + 1) t refl;
   all = λ o t. told_empty no_table 0 t refl;
 }
 
 -- origins with the same rows and tables that say the same
-pub kept_alike : (slots most count : ℕ) (old new : List OriginData) → ((o : ℕ) → IsAlike (origin_at old o) (origin_at new o)) → rows_of new ≡ rows_of old → IsKept slots most count old → IsKept slots most count new
-kept_alike slots most count old new alike same kept = record {
+pub kept_alike : (slots most : ℕ) (tabled : Bool) (count : ℕ) (old new : List OriginData) → ((o : ℕ) → IsAlike (origin_at old o) (origin_at new o)) → rows_of new ≡ rows_of old → IsKept slots most tabled count old → IsKept slots most tabled count new
+kept_alike slots most tabled count old new alike same kept = record {
   are_rows = subst (AreDemandRows slots most) (sym same) kept.are_rows;
   counted = kept.counted ∙ ap length (sym same);
   own = λ o. subst (All (λ r. r.origin.0 ≡ o)) (sym (alike o).rows) (kept.own o);
-  reached = λ o. subst (All (IsReached (origin_at new o).table)) (sym (alike o).rows) (λ k d below. record { destination = omega (arith, (kept.reached o k d below).destination, (alike o).destinations); end = omega (arith, (kept.reached o k d below).end, (alike o).slots) });
-  each = λ o d t. (alike o).told (d + 1) t ∙ (kept.each o d t ∙ ap (λ rows. by_end rows o d t) (sym same));
+  reached = λ o. subst (All (λ r. IsReached (origin_at new o).table (seen tabled r))) (sym (alike o).rows) (λ k d below. record { destination = omega (arith, (kept.reached o k d below).destination, (alike o).destinations); end = omega (arith, (kept.reached o k d below).end, (alike o).slots) });
+  each = λ o d t. (alike o).told (d + 1) t ∙ (kept.each o d t ∙ ap (λ rows. seen_by_end tabled rows o d t) (sym same));
   all = λ o t. (alike o).told 0 t ∙ (kept.all o t ∙ ap (λ rows. origin_by_end rows o t) (sym same));
 }
 
@@ -87,11 +87,16 @@ origin_elsewhere : (o t : ℕ) (row : DemandRow) → o ≢ row.origin.0 → orig
 unfolding origin_part
 origin_elsewhere o t row other = let e : (row.origin.0 == o) ≡ false = grind (arith, nat_tests) in ap (λ b. cond b (produced row.from row.to row.amount.0 t) 0) e
 
+-- whatever its destination
+seen_part : (tabled : Bool) (o t : ℕ) (row : DemandRow) → origin_part o t (seen tabled row) ≡ origin_part o t row
+unfolding origin_part
+seen_part tabled o t row = refl
+
 -- once a row is set in the rows of its origin, and told to its table
-pub kept_set : (slots most count count' : ℕ) (xs : List OriginData) (row : DemandRow) (was : ℕ) (x : OriginData) → IsKept slots most count xs → row.origin.0 < length xs → IsWas (rows_of xs) row was → has_slots slots row ≡ true → row.amount.0 ≤ most_amount →
-    length (edited_rows (rows_of xs) row) ≤ most → x.rows ≡ edited_rows (origin_at xs row.origin.0).rows row → IsShifted (origin_at xs row.origin.0).table x.table row was → IsReached (origin_at xs row.origin.0).table row → count' ≡ length (edited_rows (rows_of xs) row) →
-    IsKept slots most count' (set xs row.origin.0 x)
-kept_set slots most count count' xs row was x kept inside is in' small few rows shifted reached counts =
+pub kept_set : (slots most : ℕ) (tabled : Bool) (count count' : ℕ) (xs : List OriginData) (row : DemandRow) (was : ℕ) (x : OriginData) → IsKept slots most tabled count xs → row.origin.0 < length xs → IsWas (rows_of xs) row was → has_slots slots row ≡ true → row.amount.0 ≤ most_amount →
+    length (edited_rows (rows_of xs) row) ≤ most → x.rows ≡ edited_rows (origin_at xs row.origin.0).rows row → IsShifted (origin_at xs row.origin.0).table x.table (seen tabled row) was → IsReached (origin_at xs row.origin.0).table (seen tabled row) → count' ≡ length (edited_rows (rows_of xs) row) →
+    IsKept slots most tabled count' (set xs row.origin.0 x)
+kept_set slots most tabled count count' xs row was x kept inside is in' small few rows shifted reached counts =
     let i = row.origin.0 in
     let joined : rows_of (set xs i x) ≡ edited_rows (rows_of xs) row = set_joined xs kept.own row x inside rows in
     record {
@@ -100,16 +105,16 @@ kept_set slots most count count' xs row was x kept inside is in' small few rows 
       own = λ o. at_set xs i x inside o (λ y. All (λ r. r.origin.0 ≡ o) y.rows)
           (λ here. subst (All (λ r. r.origin.0 ≡ o)) (sym rows) (subst (λ n. All (λ r. r.origin.0 ≡ n) (edited_rows (origin_at xs i).rows row)) (sym here) (all_edited (λ r. r.origin.0 ≡ i) (origin_at xs i).rows row (kept.own i) (all_shown (λ r. r.origin.0 ≡ i) row refl))))
           (λ apart. kept.own o);
-      reached = λ o. at_set xs i x inside o (λ y. All (IsReached y.table) y.rows)
-          (λ here. subst (All (IsReached x.table)) (sym rows) (λ k d below.
-          let r = all_edited (IsReached (origin_at xs i).table) (origin_at xs i).rows row (kept.reached i) (all_shown (IsReached (origin_at xs i).table) row reached) k d below in
+      reached = λ o. at_set xs i x inside o (λ y. All (λ r. IsReached y.table (seen tabled r)) y.rows)
+          (λ here. subst (All (λ r. IsReached x.table (seen tabled r))) (sym rows) (λ k d below.
+          let r = all_edited (λ r. IsReached (origin_at xs i).table (seen tabled r)) (origin_at xs i).rows row (kept.reached i) (all_shown (λ r. IsReached (origin_at xs i).table (seen tabled r)) row reached) k d below in
           record { destination = omega (arith, r.destination, shifted.destinations); end = omega (arith, r.end, shifted.slots) }))
           (λ apart. kept.reached o);
-      each = λ o d t. at_set xs i x inside o (λ y. told y.table (d + 1) t ≡ by_end (rows_of (set xs i x)) o d t)
-          (λ here. ap (λ n. told x.table (d + 1) t) here ∙ (omega (arith, shifted.each d t, kept.each i d t, by_end_edited (rows_of xs) row was i d t is, ap (λ rs. by_end rs i d t) joined, ap (λ n. by_end (rows_of (set xs i x)) n d t) here)))
-          (λ apart. omega (arith, kept.each o d t, by_end_edited (rows_of xs) row was o d t is, ap (λ rs. by_end rs o d t) joined, part_elsewhere o d t row apart, part_elsewhere o d t (with_amount row was) apart));
+      each = λ o d t. at_set xs i x inside o (λ y. told y.table (d + 1) t ≡ seen_by_end tabled (rows_of (set xs i x)) o d t)
+          (λ here. ap (λ n. told x.table (d + 1) t) here ∙ (omega (arith, shifted.each d t, kept.each i d t, seen_edited tabled (rows_of xs) row was i d t is, ap (λ rs. seen_by_end tabled rs i d t) joined, ap (λ n. seen_by_end tabled (rows_of (set xs i x)) n d t) here)))
+          (λ apart. omega (arith, kept.each o d t, seen_edited tabled (rows_of xs) row was o d t is, ap (λ rs. seen_by_end tabled rs o d t) joined, part_elsewhere o d t (seen tabled row) apart, part_elsewhere o d t (seen tabled (with_amount row was)) apart));
       all = λ o t. at_set xs i x inside o (λ y. told y.table 0 t ≡ origin_by_end (rows_of (set xs i x)) o t)
-          (λ here. omega (arith, shifted.all t, kept.all i t, origin_edited (rows_of xs) row was i t is, ap (λ rs. origin_by_end rs i t) joined, ap (λ n. origin_by_end (rows_of (set xs i x)) n t) here))
+          (λ here. omega (arith, shifted.all t, seen_part tabled i t row, seen_part tabled i t (with_amount row was), kept.all i t, origin_edited (rows_of xs) row was i t is, ap (λ rs. origin_by_end rs i t) joined, ap (λ n. origin_by_end (rows_of (set xs i x)) n t) here))
           (λ apart. omega (arith, kept.all o t, origin_edited (rows_of xs) row was o t is, ap (λ rs. origin_by_end rs o t) joined, origin_elsewhere o t row apart, origin_elsewhere o t (with_amount row was) apart));
     }
 
@@ -122,24 +127,24 @@ unfolding origin_part
 origin_own row was t = let e : (row.origin.0 == row.origin.0) ≡ true = grind (arith, nat_tests) in ap (λ b. cond b (produced row.from row.to was t) 0) e
 
 -- the table of a row's origin has what stood, and room for more
-pub roomy_was : (slots most count : ℕ) (xs : List OriginData) (row : DemandRow) (was : ℕ) → IsKept slots most count xs → IsWas (rows_of xs) row was → IsRoomy (origin_at xs row.origin.0).table row was
-roomy_was slots most count xs row was kept is =
+pub roomy_was : (slots most : ℕ) (tabled : Bool) (count : ℕ) (xs : List OriginData) (row : DemandRow) (was : ℕ) → IsKept slots most tabled count xs → IsWas (rows_of xs) row was → IsRoomy (origin_at xs row.origin.0).table (seen tabled row) was
+roomy_was slots most tabled count xs row was kept is =
     let o = row.origin.0 in
     let rows = rows_of xs in
     record {
       has = λ k t which. elim which [
         | inl all ↦ subst (λ n. produced row.from row.to was t ≤ told (origin_at xs o).table n t) (sym all) (omega (arith, kept.all o t, origin_part_was rows row was o t is, origin_own row was t))
-        | inr own ↦ subst (λ n. produced row.from row.to was t ≤ told (origin_at xs o).table n t) (sym own) (omega (arith, kept.each o row.destination t, part_was rows row was o row.destination t is, part_own row was t))
+        | inr own ↦ subst (λ n. produced row.from row.to was t ≤ told (origin_at xs o).table n t) (sym own) (omega (arith, kept.each o (seen tabled row).destination t, seen_was tabled rows row was o (seen tabled row).destination t is, part_own (seen tabled row) was t))
       ];
       room = λ k t which. elim which [
         | inl all ↦ subst (λ n. told (origin_at xs o).table n t < 2 ^ 63) (sym all) (omega (arith, kept.all o t, origin_by_end_le rows o t, total_le slots most rows kept.are_rows))
-        | inr own ↦ subst (λ n. told (origin_at xs o).table n t < 2 ^ 63) (sym own) (omega (arith, kept.each o row.destination t, by_end_le rows o row.destination t, total_le slots most rows kept.are_rows))
+        | inr own ↦ subst (λ n. told (origin_at xs o).table n t < 2 ^ 63) (sym own) (omega (arith, kept.each o (seen tabled row).destination t, seen_le tabled rows o (seen tabled row).destination t, total_le slots most rows kept.are_rows))
       ];
     }
 
 -- the rows of an origin are rows within the horizon
-pub each_own : (slots most count : ℕ) (xs : List OriginData) (o : ℕ) → IsKept slots most count xs → All (IsDemandRow slots) (origin_at xs o).rows
-each_own slots most count xs o kept = subst (All (IsDemandRow slots)) (own_joined xs kept.own o) (All-filter (λ r. r.origin.0 == o) (IsDemandRow slots) (rows_of xs) kept.are_rows.each)
+pub each_own : (slots most : ℕ) (tabled : Bool) (count : ℕ) (xs : List OriginData) (o : ℕ) → IsKept slots most tabled count xs → All (IsDemandRow slots) (origin_at xs o).rows
+each_own slots most tabled count xs o kept = subst (All (IsDemandRow slots)) (own_joined xs kept.own o) (All-filter (λ r. r.origin.0 == o) (IsDemandRow slots) (rows_of xs) kept.are_rows.each)
 
 -- a place that has a row belongs to an origin
 pub at_inside : (xs : List OriginData) (row : DemandRow) (i : ℕ) → IsAt (origin_at xs row.origin.0).rows row i → row.origin.0 < length xs
@@ -204,5 +209,5 @@ copy_alike xs ys long copy o = elim (cases_lt o (length xs)) [
       (subst (λ (y : OriginData). IsAlike no_origin y) (sym (get_or_past ys o no_origin (omega (arith, long)))) (alike no_origin))
 ]
 
-pub kept_copied : (slots most count : ℕ) (xs ys : List OriginData) → length ys ≡ length xs → ((i : ℕ) → i < length xs → IsCopy (origin_at xs i) (origin_at ys i)) → IsKept slots most count xs → IsKept slots most count ys
-kept_copied slots most count xs ys long copy kept = kept_alike slots most count xs ys (copy_alike xs ys long copy) (copied_rows xs ys long copy) kept
+pub kept_copied : (slots most : ℕ) (tabled : Bool) (count : ℕ) (xs ys : List OriginData) → length ys ≡ length xs → ((i : ℕ) → i < length xs → IsCopy (origin_at xs i) (origin_at ys i)) → IsKept slots most tabled count xs → IsKept slots most tabled count ys
+kept_copied slots most tabled count xs ys long copy kept = kept_alike slots most tabled count xs ys (copy_alike xs ys long copy) (copied_rows xs ys long copy) kept

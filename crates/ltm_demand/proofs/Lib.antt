@@ -9,6 +9,8 @@ pub mod State
 pub mod Joined
 pub mod Restoring
 pub mod KeptOrigins
+pub mod Begins
+pub mod Own
 pub mod Changes
 pub mod Produces
 pub mod Destinations

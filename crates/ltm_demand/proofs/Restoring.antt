@@ -16,8 +16,8 @@ use Rattle.ltm_demand.proofs.Joined.{filter_within}
 abbrev pub data_of : ℕ → ℕ → List DemandRow → DemandData
 data_of slots most rows = record { slots = slots; most_rows = most; rows = rows }
 
-abbrev pub state_of : ℕ → ℕ → List DemandRow → List OriginRoom → DemandState
-state_of slots most rows room = record { demand = data_of slots most rows; room = room }
+abbrev pub state_of : ℕ → ℕ → Bool → List DemandRow → List OriginRoom → DemandState
+state_of slots most tabled rows room = record { demand = data_of slots most rows; tabled = tabled; room = room }
 
 pub with_row_done : (slots most : ℕ) (rows : List DemandRow) (row : DemandRow) → has_slots slots row ≡ true → length (edited_rows rows row) ≤ most → with_row (data_of slots most rows) row ≡ Ok (data_of slots most (edited_rows rows row))
 unfolding with_row
@@ -108,11 +108,11 @@ or_left : (a b : Bool) → a ≡ true → (a || b) ≡ true
 or_left true b e = refl
 or_left false b e = cc
 
-free_was : (slots most : ℕ) (rows : List DemandRow) (row : DemandRow) (was : ℕ) (room' : List OriginRoom) → (0 < was → row.amount.0 ≡ 0 → has_place (state_of slots most (edited_rows rows row) room') row ≡ true) →
-    takes_no_memory (state_of slots most (edited_rows rows row) room') (with_amount row was) ≡ true
-free_was slots most rows row was room' place =
+free_was : (slots most : ℕ) (tabled : Bool) (rows : List DemandRow) (row : DemandRow) (was : ℕ) (room' : List OriginRoom) → (0 < was → row.amount.0 ≡ 0 → has_place (state_of slots most tabled (edited_rows rows row) room') row ≡ true) →
+    takes_no_memory (state_of slots most tabled (edited_rows rows row) room') (with_amount row was) ≡ true
+free_was slots most tabled rows row was room' place =
     let now = amount_edited rows row was in
-    let P : Bool = has_place (state_of slots most (edited_rows rows row) room') row in
+    let P : Bool = has_place (state_of slots most tabled (edited_rows rows row) room') row in
     elim (was == 0) as (λ b. (was == 0) ≡ b → (b || (not (amount_at (edited_rows rows row) (with_amount row was) == 0) || P)) ≡ true) [
       | true ↦ λ _. refl
       | false ↦ λ stood. elim (row.amount.0 == 0) as (λ b. (row.amount.0 == 0) ≡ b → (not (amount_at (edited_rows rows row) (with_amount row was) == 0) || P) ≡ true) [
@@ -127,16 +127,16 @@ pub record IsDone (old new : DemandState) (row : DemandRow) (was : ℕ) : Type 0
   pub back : with_row new.demand (with_amount row was) ≡ Ok old.demand
   pub undo : CanRestore new (with_amount row was)
 
-pub is_done : (slots most : ℕ) (rows rows' : List DemandRow) (row : DemandRow) (was : ℕ) (room room' : List OriginRoom) → AreDemandRows slots most rows → IsWas rows row was → has_slots slots row ≡ true → rows' ≡ edited_rows rows row → length rows' ≤ most →
-    (0 < was → row.amount.0 ≡ 0 → has_place (state_of slots most rows' room') row ≡ true) → IsDone (state_of slots most rows room) (state_of slots most rows' room') row was
-is_done slots most rows rows' row was room room' are is in' set few place =
+pub is_done : (slots most : ℕ) (tabled : Bool) (rows rows' : List DemandRow) (row : DemandRow) (was : ℕ) (room room' : List OriginRoom) → AreDemandRows slots most rows → IsWas rows row was → has_slots slots row ≡ true → rows' ≡ edited_rows rows row → length rows' ≤ most →
+    (0 < was → row.amount.0 ≡ 0 → has_place (state_of slots most tabled rows' room') row ≡ true) → IsDone (state_of slots most tabled rows room) (state_of slots most tabled rows' room') row was
+is_done slots most tabled rows rows' row was room room' are is in' set few place =
     let few' : length (edited_rows rows row) ≤ most = omega (arith, ap length set) in
     let back : with_row (data_of slots most (edited_rows rows row)) (with_amount row was) ≡ Ok (data_of slots most rows) =
     with_row_done slots most (edited_rows rows row) (with_amount row was) in' (omega (arith, ap length (edited_back rows row was is), are.few)) ∙ ap (λ r. Ok (data_of slots most r)) (edited_back rows row was is) in
-    subst (λ r. IsDone (state_of slots most rows room) (state_of slots most r room') row was) (sym set) (record {
+    subst (λ r. IsDone (state_of slots most tabled rows room) (state_of slots most tabled r room') row was) (sym set) (record {
       done = with_row_done slots most rows row in' few';
       back = back;
-      undo = record { small = is.small; accepted = subst IsOk (sym back) refl; free = free_was slots most rows row was room' (subst (λ r. 0 < was → row.amount.0 ≡ 0 → has_place (state_of slots most r room') row ≡ true) set place) };
+      undo = record { small = is.small; accepted = subst IsOk (sym back) refl; free = free_was slots most tabled rows row was room' (subst (λ r. 0 < was → row.amount.0 ≡ 0 → has_place (state_of slots most tabled r room') row ≡ true) set place) };
     })
 
 -- what can be restored has slots within the horizon

@@ -13,6 +13,7 @@ use Rattle.std.proofs.lemmas.List.Kept.{IsStrictlySortedBy-filter}
 use Rattle.ltm_demand.specs.declared.row.DemandRow.{DemandRow}
 use Rattle.ltm_demand.specs.Rows.{row_cmp, before, standing, behind, row_if_any, edited_rows, amount_at, with_amount, has_slots, IsDemandRow}
 use Rattle.ltm_demand.specs.Produced.{part, by_end, origin_part, origin_by_end}
+use Rattle.ltm_demand.specs.Productions.{seen, seen_by_end}
 use Rattle.ltm_demand.specs.Kept.{AreDemandRows}
 use Rattle.ltm_demand.specs.Places.{IsAt, IsGap}
 use Rattle.ltm_units.specs.Bounds.{most_amount, most_produced}
@@ -135,11 +136,11 @@ module _ (f : DemandRow → ℕ) (few : (r : DemandRow) → f r ≤ r.amount.0) 
   sum_was : f (with_amount row was) ≤ sum_by f rows
   sum_was = omega (arith, ap (sum_by f) is.parted, sum_by-three f (before rows row) (row_if_any (with_amount row was)) (behind rows row), of_shown f few (with_amount row was))
 
-pub by_end_edited : (rows : List DemandRow) (row : DemandRow) (was o d t : ℕ) → IsWas rows row was → by_end (edited_rows rows row) o d t + part o d t (with_amount row was) ≡ by_end rows o d t + part o d t row
-by_end_edited rows row was o d t is = sum_edited (part o d t) (part_le o d t) rows row was is
+pub seen_edited : (tabled : Bool) (rows : List DemandRow) (row : DemandRow) (was o d t : ℕ) → IsWas rows row was → seen_by_end tabled (edited_rows rows row) o d t + part o d t (seen tabled (with_amount row was)) ≡ seen_by_end tabled rows o d t + part o d t (seen tabled row)
+seen_edited tabled rows row was o d t is = sum_edited (λ r. part o d t (seen tabled r)) (λ r. part_le o d t (seen tabled r)) rows row was is
 
-pub part_was : (rows : List DemandRow) (row : DemandRow) (was o d t : ℕ) → IsWas rows row was → part o d t (with_amount row was) ≤ by_end rows o d t
-part_was rows row was o d t is = sum_was (part o d t) (part_le o d t) rows row was is
+pub seen_was : (tabled : Bool) (rows : List DemandRow) (row : DemandRow) (was o d t : ℕ) → IsWas rows row was → part o d t (seen tabled (with_amount row was)) ≤ seen_by_end tabled rows o d t
+seen_was tabled rows row was o d t is = sum_was (λ r. part o d t (seen tabled r)) (λ r. part_le o d t (seen tabled r)) rows row was is
 
 pub origin_edited : (rows : List DemandRow) (row : DemandRow) (was o t : ℕ) → IsWas rows row was → origin_by_end (edited_rows rows row) o t + origin_part o t (with_amount row was) ≡ origin_by_end rows o t + origin_part o t row
 origin_edited rows row was o t is = sum_edited (origin_part o t) (origin_part_le o t) rows row was is
@@ -149,6 +150,9 @@ origin_part_was rows row was o t is = sum_was (origin_part o t) (origin_part_le 
 
 pub total_le : (slots most : ℕ) (rows : List DemandRow) → AreDemandRows slots most rows → sum_by (λ r. r.amount.0) rows ≤ most_produced
 total_le slots most rows are = omega (arith, sum_by-le (λ (r : DemandRow). r.amount.0) most_amount rows (λ k d less. (are.each k d less).small), are.few, are.bounded)
+
+pub seen_le : (tabled : Bool) (rows : List DemandRow) (o d t : ℕ) → seen_by_end tabled rows o d t ≤ sum_by (λ r. r.amount.0) rows
+seen_le tabled rows o d t = sum_by-le-sum_by (λ r. part o d t (seen tabled r)) (λ r. r.amount.0) rows (λ r. part_le o d t (seen tabled r))
 
 pub by_end_le : (rows : List DemandRow) (o d t : ℕ) → by_end rows o d t ≤ sum_by (λ r. r.amount.0) rows
 by_end_le rows o d t = sum_by-le-sum_by (part o d t) (λ r. r.amount.0) rows (part_le o d t)

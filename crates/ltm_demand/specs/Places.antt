@@ -12,6 +12,16 @@ pub record IsAt (rows : List DemandRow) (row : DemandRow) (place : ℕ) : Type 0
   pub standing_is : standing rows row ≡ slice_index_or rows place row ∷ []
   pub behind_is : behind rows row ≡ drop (suc place) rows
 
+-- destinations never fall from row to row, so that the rows to one lie side by side
+abbrev pub NeverFall : List DemandRow → Type 0
+NeverFall rows = (i k : ℕ) (d : DemandRow) → i ≤ k → k < length rows → (slice_index_or rows i d).destination ≤ (slice_index_or rows k d).destination
+
+-- the rows to the destination begin at the place, or would stand there
+pub record IsBegin (rows : List DemandRow) (destination : ℕ) (place : ℕ) : Type 0 where
+  pub within : place ≤ length rows
+  pub before : (k : ℕ) (d : DemandRow) → k < place → (slice_index_or rows k d).destination < destination
+  pub from : (k : ℕ) (d : DemandRow) → place ≤ k → k < length rows → destination ≤ (slice_index_or rows k d).destination
+
 -- no row has the key, and the row would go to the place
 pub record IsGap (rows : List DemandRow) (row : DemandRow) (place : ℕ) : Type 0 where
   pub within : place ≤ length rows

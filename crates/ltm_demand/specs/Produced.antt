@@ -19,6 +19,14 @@ part origin destination slot row = if joins origin destination row then produced
 abbrev pub by_end : List DemandRow → ℕ → ℕ → ℕ → ℕ
 by_end rows origin destination slot = sum_by (part origin destination slot) rows
 
+-- what a row has produced to the destination, from whatever origin, by the end of a slot
+unfoldable pub part_to : ℕ → ℕ → DemandRow → ℕ
+part_to destination slot row = if row.destination == destination then produced row.from row.to row.amount.0 slot else 0
+
+-- what the rows have produced to the destination, from whatever origin, by the end of a slot
+abbrev pub by_end_to : List DemandRow → ℕ → ℕ → ℕ
+by_end_to rows destination slot = sum_by (part_to destination slot) rows
+
 -- what a row has produced from the origin, whatever its destination, by the end of a slot
 unfoldable pub origin_part : ℕ → ℕ → DemandRow → ℕ
 origin_part origin slot row = if row.origin.0 == origin then produced row.from row.to row.amount.0 slot else 0

@@ -1,9 +1,18 @@
 -- A table of what an origin has produced by the end of each slot. A slot's numbers lie side by side: that of all
 -- destinations in column 0, that of a destination in the column behind it.
-use Rattle.std.specs.Prelude.{◌≡◌, ◌⊎◌, ℕ, ◌+◌, ◌-◌, ◌*◌, ◌<◌, ◌≤◌, ◌^◌, min, if◌then◌else◌, nat_le, List, [], slice_index}
+use Rattle.std.specs.Prelude.{◌≡◌, ◌⊎◌, ℕ, ◌+◌, ◌-◌, ◌*◌, ◌<◌, ◌≤◌, ◌^◌, Bool, min, if◌then◌else◌, nat_le, List, [], slice_index, sum_by}
 use Rattle.ltm_demand.specs.declared.row.DemandRow.{DemandRow}
-use Rattle.ltm_demand.specs.Rows.{with_amount}
+use Rattle.ltm_demand.specs.Rows.{table_destination, with_amount}
 use Rattle.ltm_demand.specs.Produced.{part, origin_part, produced}
+
+-- a row as the table of its origin has it: where there is a column for each destination, as it is, and else as one to
+-- destination 0, so that the only column behind that of all destinations is for all of them too
+abbrev pub seen : Bool → DemandRow → DemandRow
+seen tabled row = record row { destination = table_destination tabled row }
+
+-- what the rows have produced from the origin to the destination by the end of a slot, as the table of the origin has them
+abbrev pub seen_by_end : Bool → List DemandRow → ℕ → ℕ → ℕ → ℕ
+seen_by_end tabled rows origin destination slot = sum_by (λ row. part origin destination slot (seen tabled row)) rows
 
 pub record ProductionData : Type 0 where
   pub destinations : ℕ

@@ -13,15 +13,17 @@ pub record DemandData : Type 0 where
   pub most_rows : ℕ
   pub rows : List DemandRow
 
--- what can be set of an origin without memory: how many rows find a place, and the destinations and slots below which
+-- what can be set of an origin without memory: how many rows find a place, and the destinations, as its table has them, and the
+-- slots below which
 pub record OriginRoom : Type 0 where
   pub rows : ℕ
   pub destinations : ℕ
   pub slots : ℕ
 
--- the data, and beside them for each origin what can be set without memory
+-- the data, whether each origin keeps a table of each destination, and for each origin what can be set without memory
 pub record DemandState : Type 0 where
   pub demand : DemandData
+  pub tabled : Bool
   pub room : List OriginRoom
 
 -- the room of an origin; of one that never had a row there is none
@@ -75,11 +77,15 @@ with_amount row amount = record row { amount = record { 0 = amount } }
 abbrev pub own_rows : List DemandRow → ℕ → List DemandRow
 own_rows rows origin = filter (λ r. r.origin.0 == origin) rows
 
+-- the destination that a row has in the table of its origin: its own where there is a column for each, else 0
+abbrev pub table_destination : Bool → DemandRow → ℕ
+table_destination tabled row = if tabled then row.destination else 0
+
 -- one row more of its origin finds a place
 abbrev pub has_place : DemandState → DemandRow → Bool
 has_place d row =
     let room = room_at d.room row.origin.0 in
-    nat_lt (length (own_rows d.demand.rows row.origin.0)) room.rows && (nat_lt row.destination room.destinations && nat_le row.to room.slots)
+    nat_lt (length (own_rows d.demand.rows row.origin.0)) room.rows && (nat_lt (table_destination d.tabled row) room.destinations && nat_le row.to room.slots)
 
 -- to set the row takes no memory: it takes a row out, or writes over one, or finds a place
 abbrev pub takes_no_memory : DemandState → DemandRow → Bool

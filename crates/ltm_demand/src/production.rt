@@ -32,7 +32,7 @@ impl Model for Production {
     ghost invariant = { λ t. (vec_len t.units ≡ t.slots * (t.destinations + 1)) × (t.destinations ≤ 2 ^ 33) × (t.slots ≤ 2 ^ 33) };
 }
 
-/// As many as are needed, and at least twice as many as there are where there are too few.
+/// As many as are needed, and at least a quarter more than there are where there are too few.
 fn grown(have: usize, need: usize) -> usize
     requires have { have ≤ 2 ^ 33 }
     requires need { need ≤ 2 ^ 32 }
@@ -43,7 +43,7 @@ fn grown(have: usize, need: usize) -> usize
     if need <= have {
         return have;
     }
-    need.max(2 * have)
+    need.max(have + have / 4)
 }
 
 impl Production {

@@ -31,8 +31,8 @@ pub splits_there : (t : Parts) → AreParts t → t.splits ≡ splits_of (scenar
 splits_there t are = λ i. record { slots = are.splits_slots i; most_rows = are.splits_most i; rows = t.splits.rows }
 
 -- the demand with a row, and the same demand with other room
-pub with_demand_row : (t : Parts) (next : DemandState) (row : DemandRow) → AreParts t → IsDemandOf (scenario_in t) row → demand.with_row t.demand.demand row ≡ Ok next.demand → AreDemandRows next.demand.slots next.demand.most_rows next.demand.rows → AreParts (record t { demand = next })
-with_demand_row t next row are is done kept =
+pub with_demand_row : (t : Parts) (next : DemandState) (row : DemandRow) → AreParts t → IsDemandOf (scenario_in t) row → demand.with_row t.demand.demand row ≡ Ok next.demand → AreDemandRows next.demand.slots next.demand.most_rows next.demand.rows → next.tabled ≡ t.demand.tabled → AreParts (record t { demand = next })
+with_demand_row t next row are is done kept tabled =
     let there : demand.with_row (demand_of (scenario_in t)) row ≡ Ok next.demand = ap (λ d. demand.with_row d row) (sym (demand_there t are)) ∙ done in
     record {
       scenario = demand_is_scenario (scenario_in t) row next.demand are.scenario is there kept;
@@ -42,11 +42,12 @@ with_demand_row t next row are is done kept =
       entry_slots = are.entry_slots;
       exit_slots = are.exit_slots;
       demand_most = ap (λ (d : DemandData). d.most_rows) (with_row_rows (demand_of (scenario_in t)) next.demand row there);
+      demand_tabled = tabled ∙ are.demand_tabled;
       splits_most = are.splits_most;
     }
 
-pub with_same_demand : (t : Parts) (next : DemandState) → AreParts t → next.demand ≡ t.demand.demand → AreParts (record t { demand = next })
-with_same_demand t next are same = record {
+pub with_same_demand : (t : Parts) (next : DemandState) → AreParts t → next.demand ≡ t.demand.demand → next.tabled ≡ t.demand.tabled → AreParts (record t { demand = next })
+with_same_demand t next are same tabled = record {
   scenario = subst (λ (rows : List DemandRow). IsScenario (record (scenario_in t) { demand = rows })) (sym (ap (λ (d : DemandData). d.rows) same)) are.scenario;
   pace = are.pace;
   demand_slots = ap (λ (d : DemandData). d.slots) same ∙ are.demand_slots;
@@ -54,6 +55,7 @@ with_same_demand t next are same = record {
   entry_slots = are.entry_slots;
   exit_slots = are.exit_slots;
   demand_most = ap (λ (d : DemandData). d.most_rows) same ∙ are.demand_most;
+  demand_tabled = tabled ∙ are.demand_tabled;
   splits_most = are.splits_most;
 }
 
@@ -68,6 +70,7 @@ with_split_row t next key weights are is done have =
       entry_slots = are.entry_slots;
       exit_slots = are.exit_slots;
       demand_most = are.demand_most;
+      demand_tabled = are.demand_tabled;
       splits_most = ap (λ (d : SplitsData). d.most_rows) (with_split_row_rows (splits_of (scenario_in t)) next key weights there);
     }
 
@@ -83,6 +86,7 @@ with_added t node next are there done = record {
   entry_slots = are.entry_slots;
   exit_slots = are.exit_slots;
   demand_most = are.demand_most;
+  demand_tabled = are.demand_tabled;
   splits_most = are.splits_most;
 }
 
@@ -111,6 +115,7 @@ with_linked t name tail head diagram network diagrams entry exit stay are taken 
         entry_slots = entry_slots ∙ are.entry_slots;
         exit_slots = exit_slots ∙ are.exit_slots;
         demand_most = are.demand_most;
+        demand_tabled = are.demand_tabled;
         splits_most = are.splits_most;
       },
     )

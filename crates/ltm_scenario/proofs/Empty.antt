@@ -2,7 +2,7 @@
 use Rattle.std.proofs.Common.{◌≡◌, ℕ, ◌≤◌, [], Bool, true, false, cond, Ok, Err, Result, refl, arith}
 use Rattle.std.proofs.lemmas.Bool.Decides.{nat_tests}
 use Rattle.std.proofs.lemmas.List.Elements.{All-nil}
-use Rattle.ltm_units.specs.Bounds.{most_rows, most_links, most_destinations, most_kept_rows, most_kept_links, most_kept_destinations}
+use Rattle.ltm_units.specs.Bounds.{most_rows, most_routed_rows, most_links, most_destinations, most_kept_rows, most_kept_links, most_kept_destinations}
 use Rattle.ltm_units.proofs.Results.{both_ok}
 use Rattle.ltm_network.specs.IsNetwork.{NetworksStay}
 use Rattle.ltm_limits.proofs.Stays.{limits_whole}
@@ -45,7 +45,7 @@ is_setup setup is =
     let capacity = between _ _ _ c.0 in
     let cells = between _ _ _ d.0 in
     let demand_rows = within setup.history most_kept_rows most_rows setup.most_demand_rows _ (omega arith) e.0 in
-    let split_rows = within setup.history most_kept_rows most_rows setup.most_split_rows _ (omega arith) f.0 in
+    let split_rows = within setup.history most_kept_rows most_routed_rows setup.most_split_rows _ (omega arith) f.0 in
     let links = within setup.history most_kept_links most_links setup.most_links _ (omega arith) g.0 in
     let destinations = within setup.history most_kept_destinations most_destinations setup.most_destinations _ (omega arith) g.1 in
     record {

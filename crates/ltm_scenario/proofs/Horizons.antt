@@ -97,6 +97,7 @@ stretched_are_parts t slots demand rows entry exit are longer most demand_is row
         entry_slots = entry_slots;
         exit_slots = exit_slots;
         demand_most = ap (λ (d : DemandState). d.demand.most_rows) demand_is ∙ are.demand_most;
+        demand_tabled = ap (λ (d : DemandState). d.tabled) demand_is ∙ are.demand_tabled;
         splits_most = ap (λ (d : SplitsData). d.most_rows) rows_are ∙ are.splits_most;
       },
     )
@@ -128,6 +129,7 @@ shortened_are_parts t slots demand rows entry exit are is demand_is rows_are ent
         entry_slots = entry_slots;
         exit_slots = exit_slots;
         demand_most = ap (λ (d : DemandState). d.demand.most_rows) demand_is ∙ are.demand_most;
+        demand_tabled = ap (λ (d : DemandState). d.tabled) demand_is ∙ are.demand_tabled;
         splits_most = ap (λ (d : SplitsData). d.most_rows) rows_are ∙ are.splits_most;
       },
     )

@@ -211,6 +211,7 @@ with_pair_parts t next n d entries are is done have =
       entry_slots = are.entry_slots;
       exit_slots = are.exit_slots;
       demand_most = are.demand_most;
+      demand_tabled = are.demand_tabled;
       splits_most = ap (λ (s : SplitsData). s.most_rows) rows;
     }
 

@@ -2,7 +2,7 @@
 use Rattle.std.proofs.Common.{◌≡◌, ℕ, ◌≤◌, ◌==◌, ◌||◌, ◌&&◌, nat_lt, nat_le, not, Bool, true, false, length, refl, sym, ap, subst, ◌∙◌, arith, List}
 use Rattle.std.proofs.lemmas.Bool.Decides.{nat_tests}
 use Rattle.ltm_demand.specs.declared.row.DemandRow.{DemandRow}
-use Rattle.ltm_demand.specs.Rows.{DemandData, OriginRoom, IsNoLess, CanRestore, room_at, own_rows, amount_at}
+use Rattle.ltm_demand.specs.Rows.{DemandData, OriginRoom, IsNoLess, CanRestore, room_at, own_rows, amount_at, table_destination}
 use Rattle.ltm_scenario.specs.declared.parts.undo.Undo.{Undo}
 use Rattle.ltm_scenario.specs.declared.parts.undo.Undo.TheVariants.{Demand, Limit, NewSplit, OldSplit, Pair, Diagram, Horizon}
 use Rattle.ltm_scenario.specs.declared.side.Side.TheVariants.{Entry, Exit}
@@ -35,16 +35,16 @@ still_fits : (rows destination end : ℕ) (old new : OriginRoom) → IsNoLess ol
 still_fits rows destination end old new is h = let a = is.rows in let b = is.destinations in let c = is.slots in grind (arith, nat_tests)
 
 -- what could be restored still can where the data are the same and the room is no less
-pub still_restores : (d : DemandData) (room more : List OriginRoom) (row : DemandRow) → ((o : ℕ) → IsNoLess (room_at room o) (room_at more o)) → CanRestore (record { demand = d; room = room }) row → CanRestore (record { demand = d; room = more }) row
-still_restores d room more row h can = record {
+pub still_restores : (d : DemandData) (tabled : Bool) (room more : List OriginRoom) (row : DemandRow) → ((o : ℕ) → IsNoLess (room_at room o) (room_at more o)) → CanRestore (record { demand = d; tabled = tabled; room = room }) row → CanRestore (record { demand = d; tabled = tabled; room = more }) row
+still_restores d tabled room more row h can = record {
   small = can.small;
   accepted = can.accepted;
-  free = or_later (row.amount.0 == 0) (not (amount_at d.rows row == 0)) _ _ (still_fits (length (own_rows d.rows row.origin.0)) row.destination row.to (room_at room row.origin.0) (room_at more row.origin.0) (h row.origin.0)) can.free;
+  free = or_later (row.amount.0 == 0) (not (amount_at d.rows row == 0)) _ _ (still_fits (length (own_rows d.rows row.origin.0)) (table_destination tabled row) row.to (room_at room row.origin.0) (room_at more row.origin.0) (h row.origin.0)) can.free;
 }
 
 fits_in_room : (s : ScenarioData) (a1 : List OriginRoom) (a2 a3 : ℕ) (b1 : List OriginRoom) (b2 b3 : ℕ) (undo : Undo) → ((o : ℕ) → IsNoLess (room_at a1 o) (room_at b1 o)) → a2 ≤ b2 → a3 ≤ b3 →
     Fits (record { scenario = s; demand_room = a1; entry_places = a2; exit_places = a3 }) undo → Fits (record { scenario = s; demand_room = b1; entry_places = b2; exit_places = b3 }) undo
-fits_in_room s a1 a2 a3 b1 b2 b3 (Demand row) h1 h2 h3 fits = still_restores (demand_of s) a1 b1 row h1 fits
+fits_in_room s a1 a2 a3 b1 b2 b3 (Demand row) h1 h2 h3 fits = still_restores (demand_of s) s.setup.history a1 b1 row h1 fits
 fits_in_room s a1 a2 a3 b1 b2 b3 (Limit Entry link from was) h1 h2 h3 fits = (fits.0, fits.1, omega (arith, fits.2))
 fits_in_room s a1 a2 a3 b1 b2 b3 (Limit Exit link from was) h1 h2 h3 fits = (fits.0, fits.1, omega (arith, fits.2))
 fits_in_room s a1 a2 a3 b1 b2 b3 (NewSplit key) h1 h2 h3 fits = tt

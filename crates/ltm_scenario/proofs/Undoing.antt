@@ -1,5 +1,5 @@
 -- What an edit of one table changes, and how it is undone.
-use Rattle.std.proofs.Common.{◌≡◌, ℕ, ◌+◌, ◌-◌, ◌*◌, ◌<◌, ◌≤◌, List, length, slice_set, get_or, Ok, Some, None, IsSome, IsOk, Option, refl, sym, ap, subst, ◌∙◌, arith, vec_len}
+use Rattle.std.proofs.Common.{◌≡◌, ℕ, ◌+◌, ◌-◌, ◌*◌, ◌<◌, ◌≤◌, Bool, List, length, slice_set, get_or, Ok, Some, None, IsSome, IsOk, Option, refl, sym, ap, subst, ◌∙◌, arith, vec_len}
 use Rattle.std.specs.Global.{Vec}
 use Rattle.std.proofs.Math.ListN.{set, length-set}
 use Rattle.std.specs.Result.{is_ok}
@@ -39,10 +39,11 @@ demand_undoes t next row are are_next back can =
     undoes_by (state_in t) (state_in (record t { demand = next })) (Demand row) are.scenario
     (ap (λ (rs : List DemandRow). record (scenario_in t) { demand = rs }) (sym rows))
     (let there : next.demand ≡ demand_of (scenario_in (record t { demand = next })) = λ i. record { slots = are_next.demand_slots i; most_rows = are_next.demand_most i; rows = next.demand.rows } in
-    subst (λ (d : DemandData). CanRestore (record { demand = d; room = next.room }) row) there can)
+    subst (λ (b : Bool). CanRestore (record { demand = demand_of (scenario_in (record t { demand = next })); tabled = b; room = next.room }) row) are_next.demand_tabled
+    (subst (λ (d : DemandData). CanRestore (record { demand = d; tabled = next.tabled; room = next.room }) row) there can))
 
-pub demand_restored : (t : Parts) (next : DemandState) (row : DemandRow) → AreParts t → IsScenario (undone (scenario_in t) (Demand row)) → demand.with_row t.demand.demand row ≡ Ok next.demand → (scenario_in (record t { demand = next }) ≡ undone (scenario_in t) (Demand row)) × AreParts (record t { demand = next })
-demand_restored t next row are is done =
+pub demand_restored : (t : Parts) (next : DemandState) (row : DemandRow) → AreParts t → IsScenario (undone (scenario_in t) (Demand row)) → demand.with_row t.demand.demand row ≡ Ok next.demand → next.tabled ≡ t.demand.tabled → (scenario_in (record t { demand = next }) ≡ undone (scenario_in t) (Demand row)) × AreParts (record t { demand = next })
+demand_restored t next row are is done tabled =
     let rows = with_row_rows t.demand.demand next.demand row done in
     let same : scenario_in (record t { demand = next }) ≡ undone (scenario_in t) (Demand row) = ap (λ (d : DemandData). record (scenario_in t) { demand = d.rows }) rows in (
       same,
@@ -54,6 +55,7 @@ demand_restored t next row are is done =
         entry_slots = are.entry_slots;
         exit_slots = are.exit_slots;
         demand_most = ap (λ (d : DemandData). d.most_rows) rows ∙ are.demand_most;
+        demand_tabled = tabled ∙ are.demand_tabled;
         splits_most = are.splits_most;
       },
     )
@@ -71,6 +73,7 @@ entry_restored t next link from was are is done slots =
         entry_slots = slots ∙ are.entry_slots;
         exit_slots = are.exit_slots;
         demand_most = are.demand_most;
+        demand_tabled = are.demand_tabled;
         splits_most = are.splits_most;
       },
     )
@@ -87,6 +90,7 @@ exit_restored t next link from was are is done slots =
         entry_slots = are.entry_slots;
         exit_slots = slots ∙ are.exit_slots;
         demand_most = are.demand_most;
+        demand_tabled = are.demand_tabled;
         splits_most = are.splits_most;
       },
     )
@@ -138,6 +142,7 @@ splits_restored t next rows are is done =
         entry_slots = are.entry_slots;
         exit_slots = are.exit_slots;
         demand_most = are.demand_most;
+        demand_tabled = are.demand_tabled;
         splits_most = ap (λ (d : SplitsData). d.most_rows) done ∙ are.splits_most;
       },
     )
@@ -173,6 +178,7 @@ diagrams_changed t next link diagram limits are sets pace done =
         entry_slots = are.entry_slots;
         exit_slots = are.exit_slots;
         demand_most = are.demand_most;
+        demand_tabled = are.demand_tabled;
         splits_most = are.splits_most;
       },
     )

@@ -2,7 +2,7 @@
 use Rattle.std.specs.Prelude.{ℕ, ◌≤◌, ◌&&◌, Bool, true, false, nat_le, Result, Ok, Err, if◌then◌else◌}
 use Rattle.ltm_units.specs.declared.quantities.Millis.{Millis}
 use Rattle.ltm_units.specs.declared.quantities.Units.{Units}
-use Rattle.ltm_units.specs.Bounds.{longest_step, most_in_slot, most_slots, most_rows, most_links, most_destinations, most_kept_rows, most_kept_links, most_kept_destinations, default_links, default_destinations, default_demand_rows, default_split_rows}
+use Rattle.ltm_units.specs.Bounds.{longest_step, most_in_slot, most_slots, most_rows, most_routed_rows, most_links, most_destinations, most_kept_rows, most_kept_links, most_kept_destinations, default_links, default_destinations, default_demand_rows, default_split_rows}
 use Rattle.ltm_units.specs.Results.{◌>>>◌}
 use Rattle.ltm_scenario.specs.declared.setup.Setup.{Setup}
 use Rattle.ltm_scenario.specs.declared.setup.SetupFault.{SetupFault}
@@ -25,7 +25,7 @@ pub record IsSetup (setup : Setup) : Type 0 where
   pub demand_rows_least : 1 ≤ setup.most_demand_rows
   pub demand_rows_most : setup.most_demand_rows ≤ most_rows
   pub split_rows_least : 1 ≤ setup.most_split_rows
-  pub split_rows_most : setup.most_split_rows ≤ most_rows
+  pub split_rows_most : setup.most_split_rows ≤ most_routed_rows
   pub links_least : 1 ≤ setup.most_links
   pub links_most : setup.most_links ≤ most_links
   pub destinations_least : 1 ≤ setup.most_destinations
@@ -67,7 +67,7 @@ kept_or history kept most = if history then kept else most
 abbrev pub sizes_checked : Setup → Result (Unit {0}) SetupFault
 sizes_checked setup =
     limited (kept_or setup.history most_kept_rows most_rows) setup.most_demand_rows MostRows
-    >>> limited (kept_or setup.history most_kept_rows most_rows) setup.most_split_rows MostRows
+    >>> limited (kept_or setup.history most_kept_rows most_routed_rows) setup.most_split_rows MostRows
     >>> limited (kept_or setup.history most_kept_links most_links) setup.most_links MostLinks
     >>> limited (kept_or setup.history most_kept_destinations most_destinations) setup.most_destinations MostDestinations
 

@@ -15,7 +15,7 @@ pub record ScenarioState : Type 0 where
 
 -- the demand as its crate sees it, with its room
 abbrev pub demand_state : ScenarioState → DemandState
-demand_state s = record { demand = demand_of s.scenario; room = s.demand_room }
+demand_state s = record { demand = demand_of s.scenario; tabled = s.scenario.setup.history; room = s.demand_room }
 
 -- how many entry limits, or exit limits, can be written again without memory
 abbrev pub places_at : ScenarioState → Side → ℕ

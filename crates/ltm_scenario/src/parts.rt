@@ -1,8 +1,9 @@
 //! The parts of a scenario.
-ghost use Rattle.std.specs.Prelude.{◌≡◌, Ok};
+ghost use Rattle.std.specs.Prelude.{◌≡◌, ◌≤◌, [], Ok};
 ghost use Rattle.ltm_scenario.specs.Setup.{setup_checked};
 ghost use Rattle.ltm_scenario.specs.Data.{empty_scenario};
 ghost use Rattle.ltm_scenario.specs.Parts.{scenario_in, AreParts};
+ghost use Rattle.ltm_units.specs.Bounds.{most_rows};
 
 mod changes;
 mod horizon;
@@ -51,6 +52,20 @@ impl Drop for Parts {
     }
 }
 
+/// A demand without rows, with a table of each destination where the case keeps its history. A load without history reads what
+/// was produced by a slot once, and does without.
+fn demand_for(alloc: Global, setup: &Setup) -> Demand
+    requires { setup.now.most_demand_rows ≤ most_rows }
+    ensures demand { result.demand
+        ≡ record { slots = setup.now.slots; most_rows = setup.now.most_demand_rows; rows = [] } }
+    ensures tabled { result.tabled ≡ setup.now.history }
+{
+    if setup.history {
+        return Demand::of_most(alloc, setup.slots, setup.most_demand_rows);
+    }
+    Demand::of_rows(alloc, setup.slots, setup.most_demand_rows)
+}
+
 impl Parts {
     /// No link, no destination, no row.
     #[tactic(auto, using(crate::proofs::Empty::empty_is_scenario, crate::proofs::Empty::is_setup))]
@@ -66,7 +81,7 @@ impl Parts {
             network: Network::of_most(alloc, setup.most_links),
             diagrams: Diagrams::new(alloc, setup.step, setup.carry),
             destinations: Destinations::new(alloc),
-            demand: Demand::of_most(alloc, setup.slots, setup.most_demand_rows),
+            demand: demand_for(alloc, &setup),
             splits: Splits::of_most(alloc, setup.slots, setup.most_split_rows),
             entry: SlotLimits::new(alloc, setup.slots),
             exit: SlotLimits::new(alloc, setup.slots),

@@ -212,9 +212,10 @@ impl Scenario {
         Units(u64::from(self.parts.exit.limit(link.0, slot)))
     }
 
-    /// The rows of demand.
+    /// The rows of demand, with a table of each destination where the case keeps its history.
     pub fn demand(&self) -> &Demand
-        ensures { result.now.demand ≡ demand_of self.now }
+        ensures demand { result.now.demand ≡ demand_of self.now }
+        ensures tabled { result.now.tabled ≡ self.now.setup.history }
     {
         &self.parts.demand
     }

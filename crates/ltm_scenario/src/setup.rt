@@ -13,6 +13,8 @@ pub const MOST_SLOTS: u32 = 10_000;
 /// The most rows of demand, and of splits, that a setup may ask for.
 const MOST_ROWS: u64 = 8_000_000;
 
+const MOST_ROUTED_ROWS: u64 = 160_000_000;
+
 /// The most links that a setup may ask for.
 const MOST_LINKS: u64 = 40_000;
 
@@ -123,10 +125,15 @@ impl Setup {
         ensures { result ≡ sizes_checked self.now }
     {
         let rows = kept_or(self.history, MOST_KEPT_ROWS, MOST_ROWS);
+        let split_rows = kept_or(self.history, MOST_KEPT_ROWS, MOST_ROUTED_ROWS);
         let links = kept_or(self.history, MOST_KEPT_LINKS, MOST_LINKS);
         let destinations = kept_or(self.history, MOST_KEPT_DESTINATIONS, MOST_DESTINATIONS);
         limited(rows, u64::from(self.most_demand_rows), SetupFault::MostRows)?;
-        limited(rows, u64::from(self.most_split_rows), SetupFault::MostRows)?;
+        limited(
+            split_rows,
+            u64::from(self.most_split_rows),
+            SetupFault::MostRows,
+        )?;
         limited(links, u64::from(self.most_links), SetupFault::MostLinks)?;
         limited(
             destinations,

@@ -17,7 +17,7 @@ pub use groups::{arr_of, dep_of, group_count};
 pub use laws::{is_setting, little_is_produced, loadings_of_scenarios, scenarios_are_settings};
 pub use readers::{
     by_turn, capacity, delays, destination_at, destination_count, entry_limit, exit_limit, head,
-    in_links, limits, link_count, node_count, origin_capacity, out_links, produced, produced_row,
-    produced_total, slot_count, step, tail, weights, weights_stay,
+    in_links, limits, link_count, node_count, origin_capacity, out_links, produced, produced_near,
+    produced_row, produced_total, slot_count, step, tail, weights, weights_stay,
 };
 pub use row_groups::{NodeGroups, node_groups};

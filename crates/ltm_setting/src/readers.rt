@@ -1,5 +1,5 @@
 //! The numbers of a setting, read from a scenario.
-ghost use Rattle.std.specs.Prelude.{◌≡◌, ◌≤◌, ◌<◌, ◌-◌, ◌^◌, ℕ, length, slice_index, IfSome, Some, None, All, map};
+ghost use Rattle.std.specs.Prelude.{◌≡◌, ◌≤◌, ◌<◌, ◌-◌, ◌^◌, ℕ, length, slice_index, is_some, IfSome, Some, None, All, map};
 ghost use Rattle.ltm_diagram.specs.Delays.{IsDelay};
 ghost use Rattle.ltm_diagram.specs.Passing.{capacity_in};
 ghost use Rattle.ltm_curve.specs.Counts.{total};
@@ -217,8 +217,25 @@ pub fn destination_at(scenario: &Scenario, node: NodeId) -> Option<u32>
 
 /// What a node has produced of a destination by a boundary, in units.
 #[inline]
-#[tactic(auto, unfolding(crate::specs::Setting::setting_of))]
 pub fn produced(scenario: &Scenario, node: NodeId, destination: u32, boundary: u32) -> u64
+    ensures value { result ≡ (setting_of scenario.now).produced node.0 destination boundary }
+    ensures small { result ≤ most_produced }
+{
+    let mut near = 0;
+    produced_near(scenario, node, destination, boundary, &mut near)
+}
+
+/// The same, for calls one after another in the order of their destinations, with `near` as `Demand::by_end_near` has it: 0 to
+/// begin with.
+#[inline]
+#[tactic(auto, unfolding(crate::specs::Setting::setting_of))]
+pub fn produced_near(
+    scenario: &Scenario,
+    node: NodeId,
+    destination: u32,
+    boundary: u32,
+    near: &mut usize,
+) -> u64
     ensures value { result ≡ (setting_of scenario.now).produced node.0 destination boundary }
     ensures small { result ≤ most_produced }
 {
@@ -228,18 +245,23 @@ pub fn produced(scenario: &Scenario, node: NodeId, destination: u32, boundary: u
     production_never_falls();
     let demand = scenario.demand();
     let _rows = demand.rows();
-    demand.by_end(node, destination, boundary - 1).0
+    demand.by_end_near(node, destination, boundary - 1, near).0
 }
 
-/// What a node has produced of each destination by a boundary, in units: a number for each, and 0 for those past the end.
+/// What a node has produced of each destination by a boundary, in units: a number for each, and 0 for those past the end. `None`
+/// in a case that keeps no history.
 #[inline]
 #[tactic(auto, unfolding(crate::specs::Setting::setting_of))]
-pub fn produced_row(scenario: &Scenario, node: NodeId, boundary: u32) -> &[u64]
-    ensures { (d : ℕ) → slice_index result.now d
-        ≡ (setting_of scenario.now).produced node.0 d boundary }
+pub fn produced_row(scenario: &Scenario, node: NodeId, boundary: u32) -> Option<&[u64]>
+    ensures history { is_some result ≡ scenario.now.setup.history }
+    ensures row { IfSome result (λ row. (d : ℕ) → slice_index row.now d
+        ≡ (setting_of scenario.now).produced node.0 d boundary) }
 {
+    if !scenario.setup().history {
+        return None;
+    }
     if boundary == 0 {
-        return &[];
+        return Some(&[]);
     }
     scenario.demand().row_by_end(node, boundary - 1)
 }

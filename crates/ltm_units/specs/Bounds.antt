@@ -72,6 +72,10 @@ most_produced = 8000000000000000
 abbrev pub most_rows : ℕ
 most_rows = 8000000
 
+-- rows of splits of a case whose nodes without one take the least route: one for each node and destination
+abbrev pub most_routed_rows : ℕ
+most_routed_rows = 160000000
+
 -- numbers that a pair of node and slot reads, at five arms, four out-links and 2,000 destinations
 abbrev pub widest_row : ℕ
 widest_row = 36010

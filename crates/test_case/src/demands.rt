@@ -37,13 +37,22 @@ fn change(demand: &mut Demand, row: DemandRow) -> Option<Units> {
     demand.change(row).ok()
 }
 
+/// What node 7 has produced for destination 3 by the end of a slot, from the row of all destinations; where there is none, from
+/// the rows that are looked for in a wrong place.
+fn produced_in_row(demand: &Demand, slot: u32) -> u64 {
+    let mut near = 5;
+    match demand.row_by_end(NodeId(7), slot) {
+        Some(each) => each.get(3).copied().unwrap_or(u64::MAX),
+        None => demand.by_end_near(NodeId(7), 3, slot, &mut near).0,
+    }
+}
+
 /// What node 7 has produced for destination 3 by the end of a slot, told in three ways.
 fn produced(demand: &Demand, slot: u32) -> [u64; 3] {
-    let each = demand.row_by_end(NodeId(7), slot);
     [
         demand.by_end(NodeId(7), 3, slot).0,
         demand.origin_by_end(NodeId(7), slot).0,
-        each.get(3).copied().unwrap_or(u64::MAX),
+        produced_in_row(demand, slot),
     ]
 }
 
@@ -61,11 +70,20 @@ fn produced_elsewhere(demand: &Demand, slot: u32) -> [u64; 7] {
 }
 
 /// Whether a row alone is set, and what it has produced by the end of a slot.
-fn produced_by(alloc: Global, row: DemandRow, slot: u32) -> (Answer, [u64; 3], [u64; 7]) {
-    let mut demand = Demand::new(alloc, 360);
-    let answer = set(&mut demand, row);
-    let here = produced(&demand, slot);
-    (answer, here, produced_elsewhere(&demand, slot))
+fn produced_by(demand: &mut Demand, row: DemandRow, slot: u32) -> (Answer, [u64; 3], [u64; 7]) {
+    let answer = set(demand, row);
+    let here = produced(demand, slot);
+    (answer, here, produced_elsewhere(demand, slot))
+}
+
+/// The same with a table of each destination, and without one.
+fn produced_by_both(alloc: Global, row: DemandRow, slot: u32) -> [(Answer, [u64; 3], [u64; 7]); 2] {
+    let mut tabled = Demand::new(alloc, 360);
+    let mut of_rows = Demand::of_rows(alloc, 360, 10);
+    [
+        produced_by(&mut tabled, row, slot),
+        produced_by(&mut of_rows, row, slot),
+    ]
 }
 
 #[test]
@@ -88,7 +106,8 @@ fn produces_evenly_and_floored(rt: HostRuntime) {
         (1, 0, 2, 0, 0),
     ] {
         assert!(rt;
-            produced_by(rt.alloc(), row(7, 3, from, to, amount), slot) == (DONE, [want; 3], [0; 7]),
+            produced_by_both(rt.alloc(), row(7, 3, from, to, amount), slot)
+                == [(DONE, [want; 3], [0; 7]); 2],
             "{amount} at {slot}"
         );
     }

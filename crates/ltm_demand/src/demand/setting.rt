@@ -59,9 +59,10 @@ impl Demand {
         ensures back { with_row self.new.demand (with_amount row.now result) ≡ Ok self.old.demand }
         ensures undo { CanRestore self.new (with_amount row.now result) }
         ensures room { KeepsRoom self.old self.new }
+        ensures tabled { self.new.tabled ≡ self.old.tabled }
     {
         let origin = &mut self.origins[row.origin.0 as usize];
-        let was = origin.replace(place, row);
+        let was = origin.replace(place, row, self.tabled);
         self.count -= taken_out(row);
         was
     }
@@ -78,9 +79,10 @@ impl Demand {
         ensures back { with_row self.new.demand (with_amount row.now 0) ≡ Ok self.old.demand }
         ensures undo { CanRestore self.new (with_amount row.now 0) }
         ensures room { KeepsRoom self.old self.new }
+        ensures tabled { self.new.tabled ≡ self.old.tabled }
     {
         let origin = &mut self.origins[row.origin.0 as usize];
-        origin.fill(place, row);
+        origin.fill(place, row, self.tabled);
         self.count += 1;
     }
 
@@ -102,10 +104,11 @@ impl Demand {
         ensures demand { self.new.demand ≡ self.old.demand }
         ensures ok { OnOk result (has_place self.new row.now ≡ true) }
         ensures room { KeepsRoom self.old self.new }
+        ensures tabled { self.new.tabled ≡ self.old.tabled }
     {
         make_origins(&mut self.origins, row.origin.0)?;
         let origin = &mut self.origins[row.origin.0 as usize];
-        origin.make_room(row.destination, row.to)
+        origin.make_room(row, self.tabled)
     }
 
     /// Sets a row whose key does not stand yet.
@@ -123,6 +126,7 @@ impl Demand {
             → with_row self.old.demand row.now ≡ Err e) }
         ensures was { amount_at self.old.demand.rows row.now ≡ 0 }
         ensures room { KeepsRoom self.old self.new }
+        ensures tabled { self.new.tabled ≡ self.old.tabled }
     {
         if self.count >= self.most_rows as usize {
             return Err(DemandFault::TooManyRows);
@@ -155,6 +159,7 @@ impl Demand {
             ≡ Ok self.old.demand) }
         ensures undo { IfOk result (λ was. CanRestore self.new (with_amount row was.0)) }
         ensures room { KeepsRoom self.old self.new }
+        ensures tabled { self.new.tabled ≡ self.old.tabled }
     {
         if !self.is_within(&row) {
             return Err(DemandFault::BadSlots);
@@ -187,6 +192,7 @@ impl Demand {
         ensures memory { result ≡ Err DemandFault.NoMemory
             → (amount_at self.old.demand.rows row ≡ 0) × (0 < row.amount.0) }
         ensures room { KeepsRoom self.old self.new }
+        ensures tabled { self.new.tabled ≡ self.old.tabled }
     {
         match self.change(row) {
             Ok(_) => return Ok(()),
@@ -201,6 +207,7 @@ impl Demand {
         requires { CanRestore self.old row }
         ensures done { with_row self.old.demand row ≡ Ok self.new.demand }
         ensures room { KeepsRoom self.old self.new }
+        ensures tabled { self.new.tabled ≡ self.old.tabled }
     {
         match self.place(&row) {
             Ok(place) => {

@@ -15,7 +15,7 @@ returns-clause-value c =
     let s = c.args.scenario.now in
     let u = c.args.node.0 in
     let k = c.args.boundary in
-    c.origin_by_end.ensures ∙ (ap (λ (d : DemandData). origin_by_end d.rows u (k - 1)) c.demand.ensures ∙ sym (total_later s u k c.setup-setup.ensures.scenario c.destinations_add_up.ensures.sum (omega arith)))
+    c.origin_by_end.ensures ∙ (ap (λ (d : DemandData). origin_by_end d.rows u (k - 1)) c.demand.ensures.demand ∙ sym (total_later s u k c.setup-setup.ensures.scenario c.destinations_add_up.ensures.sum (omega arith)))
 
 pub returns-clause-small : goal.returns-clause-small
 unfolding setting_of
@@ -24,7 +24,7 @@ returns-clause-small c =
     omega (
       arith,
       c.origin_by_end.ensures,
-      ap (λ (d : DemandData). origin_by_end d.rows c.args.node.0 (c.args.boundary - 1)) c.demand.ensures,
+      ap (λ (d : DemandData). origin_by_end d.rows c.args.node.0 (c.args.boundary - 1)) c.demand.ensures.demand,
       c.destinations_add_up.ensures.within s.demand c.args.node.0 (c.args.boundary - 1),
       c.production_never_falls.ensures.small s.setup.slots s.setup.most_demand_rows s.demand c.setup-setup.ensures.scenario.demand_rows,
     )

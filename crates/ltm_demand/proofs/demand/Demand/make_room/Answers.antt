@@ -3,7 +3,7 @@ use Rattle.std.specs.Prelude.{OnOk}
 use Rattle.std.proofs.lemmas.List.{get_or_read, get_or-set_same}
 use Rattle.ltm_demand.specs.declared.row.DemandRow.{DemandRow}
 use Rattle.ltm_demand.specs.Rows.{DemandData, DemandState, IsNoLess, room_at}
-use Rattle.ltm_demand.specs.Productions.{told, IsReached}
+use Rattle.ltm_demand.specs.Productions.{seen, told, IsReached}
 use Rattle.ltm_demand.specs.Origins.{OriginData, no_origin, origin_at, IsAlike}
 use Rattle.ltm_demand.specs.Kept.{IsKept, room_in, room_of}
 use Rattle.ltm_demand.proofs.KeptOrigins.{kept_alike, alike_set, rows_set, room_alike, room_set, no_less_through}
@@ -33,8 +33,8 @@ invariant_of-self-2 c =
     let keeps : IsNoLess (room_in (origin_at ys i)) (room_in x) = subst (λ (o : OriginData). IsNoLess (room_in o) (room_in x)) read c.make_room.ensures.places in
     let rows : x.rows ≡ (origin_at ys i).rows = c.make_room.ensures.rows ∙ ap (λ (o : OriginData). o.rows) read in
     let is : IsAlike (origin_at ys i) x = record { rows = rows; told = subst (λ (o : OriginData). (k t : ℕ) → told x.table k t ≡ told o.table k t) read c.make_room.ensures.same; destinations = keeps.destinations; slots = keeps.slots } in
-    let first : IsKept c.self.inside.slots c.self.inside.most_rows c.self.inside.count ys = kept_alike c.self.inside.slots c.self.inside.most_rows c.self.inside.count xs ys c.make_origins.ensures.alike c.make_origins.ensures.rows c.self.invariant in
-    let last : IsKept c.self.inside.slots c.self.inside.most_rows c.self.inside.count (set ys i x) = kept_alike c.self.inside.slots c.self.inside.most_rows c.self.inside.count ys (set ys i x) (alike_set ys i x inside is) (rows_set ys i x inside rows) first in
+    let first : IsKept c.self.inside.slots c.self.inside.most_rows c.self.inside.tabled c.self.inside.count ys = kept_alike c.self.inside.slots c.self.inside.most_rows c.self.inside.tabled c.self.inside.count xs ys c.make_origins.ensures.alike c.make_origins.ensures.rows c.self.invariant in
+    let last : IsKept c.self.inside.slots c.self.inside.most_rows c.self.inside.tabled c.self.inside.count (set ys i x) = kept_alike c.self.inside.slots c.self.inside.most_rows c.self.inside.tabled c.self.inside.count ys (set ys i x) (alike_set ys i x inside is) (rows_set ys i x inside rows) first in
     last
 
 pub returns-clause-demand : goal.returns-clause-demand
@@ -59,12 +59,12 @@ returns-clause-ok c =
     let keeps : IsNoLess (room_in (origin_at ys i)) (room_in x) = subst (λ (o : OriginData). IsNoLess (room_in o) (room_in x)) read c.make_room.ensures.places in
     let rows : x.rows ≡ (origin_at ys i).rows = c.make_room.ensures.rows ∙ ap (λ (o : OriginData). o.rows) read in
     let is : IsAlike (origin_at ys i) x = record { rows = rows; told = subst (λ (o : OriginData). (k t : ℕ) → told x.table k t ≡ told o.table k t) read c.make_room.ensures.same; destinations = keeps.destinations; slots = keeps.slots } in
-    let first : IsKept c.self.inside.slots c.self.inside.most_rows c.self.inside.count ys = kept_alike c.self.inside.slots c.self.inside.most_rows c.self.inside.count xs ys c.make_origins.ensures.alike c.make_origins.ensures.rows c.self.invariant in
-    let last : IsKept c.self.inside.slots c.self.inside.most_rows c.self.inside.count (set ys i x) = kept_alike c.self.inside.slots c.self.inside.most_rows c.self.inside.count ys (set ys i x) (alike_set ys i x inside is) (rows_set ys i x inside rows) first in
+    let first : IsKept c.self.inside.slots c.self.inside.most_rows c.self.inside.tabled c.self.inside.count ys = kept_alike c.self.inside.slots c.self.inside.most_rows c.self.inside.tabled c.self.inside.count xs ys c.make_origins.ensures.alike c.make_origins.ensures.rows c.self.invariant in
+    let last : IsKept c.self.inside.slots c.self.inside.most_rows c.self.inside.tabled c.self.inside.count (set ys i x) = kept_alike c.self.inside.slots c.self.inside.most_rows c.self.inside.tabled c.self.inside.count ys (set ys i x) (alike_set ys i x inside is) (rows_set ys i x inside rows) first in
     let here : origin_at (set ys i x) i ≡ x = get_or-set_same ys i x no_origin inside in
     all_three c.make_room.result _ _ _ _ c.make_room.ensures.vacant c.make_room.ensures.destination c.make_room.ensures.end (λ vacant destination end.
-    has_place_in c.self.inside.slots c.self.inside.most_rows (set ys i x) c.args.row.now last.own (subst (λ (y : OriginData). length y.rows < y.places) (sym here) vacant)
-    (subst (λ (y : OriginData). IsReached y.table c.args.row.now) (sym here) (record { destination = destination; end = end })))
+    has_place_in c.self.inside.slots c.self.inside.most_rows c.self.inside.tabled (set ys i x) c.args.row.now last.own (subst (λ (y : OriginData). length y.rows < y.places) (sym here) vacant)
+    (subst (λ (y : OriginData). IsReached y.table (seen c.self.inside.tabled c.args.row.now)) (sym here) (record { destination = destination; end = end })))
 
 pub returns-clause-room : goal.returns-clause-room
 returns-clause-room c =

@@ -18,7 +18,7 @@ rows-preserved c =
 pub rows-init : goal.rows-init
 rows-init c =
     let s : ScenarioData = c.args.self.now in
-    let all : c.rows-rows.result ≡ s.demand = c.rows-rows.ensures.all ∙ ap (λ (d : DemandData). d.rows) c.demand.ensures in
+    let all : c.rows-rows.result ≡ s.demand = c.rows-rows.ensures.all ∙ ap (λ (d : DemandData). d.rows) c.demand.ensures.demand in
     record {
       rest = ap (first_over (demand_row_checked s)) all;
       all = subst (All (IsDemandOf s)) (sym all) c.setup-setup.ensures.scenario.demand;

@@ -17,31 +17,31 @@ loop-destination-init c = (
 
 pub share_of-share-requires : goal.share_of-share-requires
 share_of-share-requires c =
-    entered_within ((setting_of c.args.self.now.scenario.now).destinations) ((setting_of c.args.self.now.scenario.now).produced c.args.self.now.node.0) c.args.slot c.args.part _ _ c.loop-destination.destination (c.number_at.result - c.number_at-before.result) c.loop-destination.invariant.0 (omega arith) (omega (arith, c.number_at.ensures, c.number_at-before.ensures, c.produced_row-next.ensures c.loop-destination.destination, c.produced_row-first.ensures c.loop-destination.destination))
+    entered_within ((setting_of c.args.self.now.scenario.now).destinations) ((setting_of c.args.self.now.scenario.now).produced c.args.self.now.node.0) c.args.slot c.args.part _ _ c.loop-destination.destination (c.count_in.result - c.count_in-before.result) c.loop-destination.invariant.0 (omega arith) (omega (arith, c.count_in.ensures, c.count_in-before.ensures))
 
 pub overflow_sub-whole-in-loop-destination : goal.overflow_sub-whole-in-loop-destination
 overflow_sub-whole-in-loop-destination c =
-    entered_within ((setting_of c.args.self.now.scenario.now).destinations) ((setting_of c.args.self.now.scenario.now).produced c.args.self.now.node.0) c.args.slot c.args.part _ _ c.loop-destination.destination (c.number_at.result - c.number_at-before.result) c.loop-destination.invariant.0 (omega arith) (omega (arith, c.number_at.ensures, c.number_at-before.ensures, c.produced_row-next.ensures c.loop-destination.destination, c.produced_row-first.ensures c.loop-destination.destination))
+    entered_within ((setting_of c.args.self.now.scenario.now).destinations) ((setting_of c.args.self.now.scenario.now).produced c.args.self.now.node.0) c.args.slot c.args.part _ _ c.loop-destination.destination (c.count_in.result - c.count_in-before.result) c.loop-destination.invariant.0 (omega arith) (omega (arith, c.count_in.ensures, c.count_in-before.ensures))
 
 pub overflow_add-into : goal.overflow_add-into
 overflow_add-into c =
     let t =
-    takes ((setting_of c.args.self.now.scenario.now).destinations) ((setting_of c.args.self.now.scenario.now).produced c.args.self.now.node.0) c.args.slot c.args.part _ _ c.loop-destination.destination c.number_at-before.result (c.number_at.result - c.number_at-before.result) c.share_of-share.result c.loop-destination.invariant.0 (omega arith) c.requires.rise
-    c.requires.part (omega (arith, c.number_at-before.ensures, c.produced_row-first.ensures c.loop-destination.destination)) (omega (arith, c.number_at.ensures, c.number_at-before.ensures, c.produced_row-next.ensures c.loop-destination.destination, c.produced_row-first.ensures c.loop-destination.destination)) c.share_of-share.ensures.share in
+    takes ((setting_of c.args.self.now.scenario.now).destinations) ((setting_of c.args.self.now.scenario.now).produced c.args.self.now.node.0) c.args.slot c.args.part _ _ c.loop-destination.destination c.count_in-before.result (c.count_in.result - c.count_in-before.result) c.share_of-share.result c.loop-destination.invariant.0 (omega arith) c.requires.rise
+    c.requires.part c.count_in-before.ensures (omega (arith, c.count_in.ensures, c.count_in-before.ensures)) c.share_of-share.ensures.share in
     omega (arith, t.fits)
 
 pub overflow_sub-into : goal.overflow_sub-into
 overflow_sub-into c =
     let t =
-    takes ((setting_of c.args.self.now.scenario.now).destinations) ((setting_of c.args.self.now.scenario.now).produced c.args.self.now.node.0) c.args.slot c.args.part _ _ c.loop-destination.destination c.number_at-before.result (c.number_at.result - c.number_at-before.result) c.share_of-share.result c.loop-destination.invariant.0 (omega arith) c.requires.rise
-    c.requires.part (omega (arith, c.number_at-before.ensures, c.produced_row-first.ensures c.loop-destination.destination)) (omega (arith, c.number_at.ensures, c.number_at-before.ensures, c.produced_row-next.ensures c.loop-destination.destination, c.produced_row-first.ensures c.loop-destination.destination)) c.share_of-share.ensures.share in
+    takes ((setting_of c.args.self.now.scenario.now).destinations) ((setting_of c.args.self.now.scenario.now).produced c.args.self.now.node.0) c.args.slot c.args.part _ _ c.loop-destination.destination c.count_in-before.result (c.count_in.result - c.count_in-before.result) c.share_of-share.result c.loop-destination.invariant.0 (omega arith) c.requires.rise
+    c.requires.part c.count_in-before.ensures (omega (arith, c.count_in.ensures, c.count_in-before.ensures)) c.share_of-share.ensures.share in
     omega (arith, t.is_mixed, c.requires.behind c.loop-destination.destination (omega arith))
 
 pub loop-destination-preserved : goal.loop-destination-preserved
 loop-destination-preserved c =
     let t =
-    takes ((setting_of c.args.self.now.scenario.now).destinations) ((setting_of c.args.self.now.scenario.now).produced c.args.self.now.node.0) c.args.slot c.args.part _ _ c.loop-destination.destination c.number_at-before.result (c.number_at.result - c.number_at-before.result) c.share_of-share.result c.loop-destination.invariant.0 (omega arith) c.requires.rise
-    c.requires.part (omega (arith, c.number_at-before.ensures, c.produced_row-first.ensures c.loop-destination.destination)) (omega (arith, c.number_at.ensures, c.number_at-before.ensures, c.produced_row-next.ensures c.loop-destination.destination, c.produced_row-first.ensures c.loop-destination.destination)) c.share_of-share.ensures.share in (
+    takes ((setting_of c.args.self.now.scenario.now).destinations) ((setting_of c.args.self.now.scenario.now).produced c.args.self.now.node.0) c.args.slot c.args.part _ _ c.loop-destination.destination c.count_in-before.result (c.count_in.result - c.count_in-before.result) c.share_of-share.result c.loop-destination.invariant.0 (omega arith) c.requires.rise
+    c.requires.part c.count_in-before.ensures (omega (arith, c.count_in.ensures, c.count_in-before.ensures)) c.share_of-share.ensures.share in (
       t.next,
       written c.loop-destination.into (λ d. mixed ((setting_of c.args.self.now.scenario.now).destinations) ((setting_of c.args.self.now.scenario.now).produced c.args.self.now.node.0) c.args.slot c.args.part d - slice_index c.args.less.now d) c.loop-destination.destination _ c.loop-destination.invariant.1 (omega arith) (omega (arith, t.is_mixed)),
     )
