@@ -11,7 +11,7 @@ ghost use Rattle.ltm_gap.specs.Arrived.{read_came, read_went};
 ghost use Rattle.ltm_gap.specs.Told.{Suits};
 
 use crate::laws::came_and_stayed;
-use crate::pair::place_of;
+use crate::slot::place_of;
 use ltm_flows::Loading;
 use ltm_scenario::Scenario;
 use ltm_setting::{in_links, is_setting, out_links};

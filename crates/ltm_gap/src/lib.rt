@@ -24,6 +24,7 @@ mod leaving;
 mod pair;
 mod parts;
 mod search;
+mod slot;
 mod sums;
 
 pub use finding::{gaps_in_threads, gaps_of, spent_to};

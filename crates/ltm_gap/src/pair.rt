@@ -3,21 +3,19 @@ ghost use Rattle.std.specs.Prelude.{◌≡◌, ◌<◌, ◌≤◌, ◌+◌, ◌*
 ghost use Rattle.ltm_setting.specs.Setting.{setting_of};
 ghost use Rattle.ltm_setting.specs.Places.{IsDestination, IsNode, IsSlot};
 ghost use Rattle.ltm_flows.specs.Origins.{produced_in_all};
-ghost use Rattle.ltm_gap.specs.Gaps.{produced_in};
 ghost use Rattle.ltm_gap.specs.Parts.{AddsOwned};
 ghost use Rattle.ltm_gap.specs.Told.{Suits};
 ghost use Rattle.ltm_gap.specs.Steps.{IsAt, IsPair, IsFound, IsIdle, IsCut, AreSums, IsMore, AddsSlot, AddsSlots};
-ghost use Rattle.ltm_units.specs.Bounds.{longest_step, most_produced, most_slots};
+ghost use Rattle.ltm_units.specs.Bounds.{most_produced, most_slots};
 
 use crate::cutting::{Cut, Made, cut_slot};
 use crate::search::find;
-use crate::sums::{At, Sum, share_of};
+use crate::slot::{at_slot, place_of, units_in};
+use crate::sums::{Sum, share_of};
 use ltm_flows::Loading;
 use ltm_scenario::Scenario;
 use ltm_search::Search;
-use ltm_setting::{
-    destination_count, is_setting, node_count, produced, produced_total, slot_count, step,
-};
+use ltm_setting::{destination_count, is_setting, node_count, produced_total, slot_count};
 use ltm_units::{NoMemory, NodeId};
 use std::alloc::Global;
 use std::mem;
@@ -30,45 +28,6 @@ pub struct Pair {
     last: Search,
     within: Search,
     known: bool,
-}
-
-/// The node that a destination is.
-#[tactic(auto, unfolding(ltm_setting::specs::Setting::setting_of))]
-pub(crate) fn place_of(scenario: &Scenario, destination: u32) -> NodeId
-    requires { IsDestination scenario.now destination }
-    ensures node { result.0 ≡ (setting_of scenario.now).place destination }
-    ensures there { IsNode scenario.now result.0 }
-{
-    let _setup = scenario.setup();
-    scenario.destination_node(destination)
-}
-
-/// A slot of a scenario, beside the step and the number of all.
-fn at_slot(scenario: &Scenario, slot: u32) -> At
-    requires { IsSlot scenario.now slot }
-    ensures step { result.step.0 ≡ (setting_of scenario.now).step }
-    ensures slots { result.slots ≡ (setting_of scenario.now).slots }
-    ensures slot { result.slot ≡ slot }
-    ensures short_step { result.step.0 ≤ longest_step }
-    ensures few_slots { result.slots ≤ most_slots }
-    ensures within { result.slot < result.slots }
-{
-    At {
-        step: step(scenario),
-        slots: slot_count(scenario),
-        slot,
-    }
-}
-
-/// What an origin produces for a destination in a slot.
-fn units_in(scenario: &Scenario, origin: NodeId, destination: u32, slot: u32) -> u64
-    requires { IsSlot scenario.now slot }
-    ensures units { result ≡ produced_in (setting_of scenario.now) origin.0 destination slot }
-    ensures small { result ≤ most_produced }
-{
-    let _slots = slot_count(scenario);
-    let before = produced(scenario, origin, destination, slot);
-    produced(scenario, origin, destination, slot + 1).saturating_sub(before)
 }
 
 impl Pair {
