@@ -14,12 +14,12 @@ zero_is o t z is = go t (subst (λ x. is_zero x ≡ true) is z)
     go : (t : Millis) → (t.0 == 0) ≡ true → 0 ≡ t.0
     go t e = grind (arith, nat_tests)
 
-some_is : (o : Option Millis) (t : Millis) → o ≡ Some t → IsSome o
+pub some_is : (o : Option Millis) (t : Millis) → o ≡ Some t → IsSome o
 some_is None t is = cc
 some_is (Some x) t is = refl
 
 -- the potential at the head of a tight link
-head_of_tight : (tail : Option Millis) (time : ℕ) (head : Option Millis) (t : Millis) → is_tight tail time head ≡ true → tail ≡ Some t
+pub head_of_tight : (tail : Option Millis) (time : ℕ) (head : Option Millis) (t : Millis) → is_tight tail time head ≡ true → tail ≡ Some t
     → (h : Millis) × (head ≡ Some h) × (t.0 ≡ time + h.0)
 head_of_tight None time head t tight is = cc
 head_of_tight (Some x) time None t tight is = cc

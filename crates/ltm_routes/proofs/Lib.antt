@@ -3,6 +3,11 @@ pub mod Out
 pub mod Backward
 pub mod Exact
 pub mod Flags
+pub mod Least
+pub mod Has
 pub mod Rows
 pub mod Placed
 pub mod One
+pub mod There
+pub mod Pairs
+pub mod Settled

@@ -17,7 +17,7 @@ same_time r from to None (Some t) x y = let t' = y.taken in absurd (x t'.0 t'.1)
 same_time r from to (Some t) None x y = let t' = x.taken in absurd (y t'.0 t'.1)
 same_time r from to (Some t) (Some u) x y = ap (λ n. Some (millis n)) (least_is r from to t.0 u.0 x y)
 
-same_flag : {P : Type 0} (a b : Bool) → (a ≡ true) ↔ P → (b ≡ true) ↔ P → a ≡ b
+pub same_flag : {P : Type 0} (a b : Bool) → (a ≡ true) ↔ P → (b ≡ true) ↔ P → a ≡ b
 same_flag true true x y = refl
 same_flag true false x y = sym (y.1 (x.0 refl))
 same_flag false true x y = x.1 (y.0 refl)

@@ -1,6 +1,6 @@
--- Rows that are set in order of destination, then of node, are new.
-use Rattle.std.proofs.Common.{◌≡◌, inl, inr, ℕ, zero, suc, ◌+◌, ◌<◌, ◌≤◌, ◌==◌, ◌&&◌, nat_le, Bool, true, false, cond, List, [], ◌∷◌, ◌++◌, length, sum, Some, None, is_none, Ok, Err, Result, refl, ap, sym, subst, arith, ◌∙◌, length-append}
-use Rattle.std.specs.List.{list_all}
+-- Rows that are set one after the other, each of a node that has none for the destination.
+use Rattle.std.proofs.Common.{◌≡◌, inl, inr, ℕ, zero, suc, ◌+◌, ◌<◌, ◌≤◌, ◌==◌, ◌&&◌, ◌||◌, nat_le, Bool, true, false, cond, List, [], ◌∷◌, ◌++◌, length, sum, filter, Some, None, is_none, Ok, Err, Result, refl, ap, sym, subst, arith, ◌∙◌, length-append, append-nil, append_assoc}
+use Rattle.std.specs.List.{list_any}
 use Rattle.std.specs.Map.{lookup}
 use Rattle.std.specs.BTreeMap.{is_at}
 use Rattle.std.specs.Ordering.{match_ordering}
@@ -8,80 +8,65 @@ use Rattle.std.specs.Ordering.{is_eq}
 use Rattle.std.specs.declared.cmp.Ordering.{Ordering}
 use Rattle.std.specs.declared.cmp.Ordering.TheVariants.{Less, Equal, Greater}
 use Rattle.std.proofs.lemmas.Bool.Decides.{nat_tests}
+use Rattle.std.proofs.lemmas.List.Folds.{list_any-append}
 use Rattle.ltm_splits.specs.declared.keys.SplitKey.{SplitKey}
 use Rattle.ltm_splits.specs.declared.keys.SplitFault.{SplitFault}
 use Rattle.ltm_splits.specs.declared.keys.SplitFault.TheVariants.{BadSlots, ZeroWeight, TooManyRows}
-use Rattle.ltm_splits.specs.Rows.{SplitRow, SplitsData, split_cmp, key_of, row_of, put_in, is_over, with_row, with_rows}
+use Rattle.ltm_splits.specs.Rows.{SplitRow, SplitsData, split_cmp, key_of, row_of, put_in, is_over, is_of, with_row, with_rows}
 use Rattle.ltm_scenario.specs.Data.{ScenarioData, splits_of}
+use Rattle.ltm_scenario.specs.Reads.{has_split}
 use Rattle.ltm_scenario.specs.Build.{with_split, ◌>>=◌}
 use Rattle.ltm_routes.specs.Split.{with_splits, lists_below}
-use Rattle.ltm_routes.specs.Setting.{is_before, HasSet}
+use Rattle.ltm_routes.specs.Setting.{HasSet, AreTooMany}
 use Rattle.ltm_search.proofs.Arriving.{decide}
 
--- ---- one row
+-- ---- rows of a pair of node and destination, and others
 same_key : (n d : ℕ) (k : SplitKey) → is_eq (split_cmp (key_of n d 0) k) ≡ (((k.node.0 == n) && (k.destination == d)) && (k.from == 0))
 same_key n d k = grind (arith, nat_tests)
 
-before_differs : (d n : ℕ) (row : SplitRow) → is_before d n row ≡ true → is_eq (split_cmp (key_of n d 0) row.0) ≡ false
-before_differs d n row before = same_key n d row.0 ∙ grind (arith, nat_tests, before)
+pub other_differs : (n d : ℕ) (row : SplitRow) → is_of n d row ≡ false → is_eq (split_cmp (key_of n d 0) row.0) ≡ false
+other_differs n d row other = same_key n d row.0 ∙ ap (λ b. b && (row.0.from == 0)) other
 
-still_before : (d n : ℕ) (row : SplitRow) → is_before d n row ≡ true → is_before d (n + 1) row ≡ true
-still_before d n row before = grind (arith, nat_tests, before)
+pub none_of : (a b : Bool) → (a || b) ≡ false → (a ≡ false) × (b ≡ false)
+none_of true b is = cc
+none_of false b is = (refl, is)
 
-before_next : (d n : ℕ) (row : SplitRow) → is_before d n row ≡ true → is_before (d + 1) 0 row ≡ true
-before_next d n row before = grind (arith, nat_tests, before)
+fresh_none : (n d : ℕ) (rows : List SplitRow) → has_split rows n d ≡ false → row_of rows (key_of n d 0) ≡ None
+fresh_none n d [] none = refl
+fresh_none n d (x ∷ xs) none =
+    let h = none_of (is_of n d x) (has_split xs n d) none in
+    ap (λ b. cond b (Some x.1) (lookup (is_at (split_cmp (key_of n d 0))) xs)) (other_differs n d x h.0) ∙ fresh_none n d xs h.1
 
-here_before : (d n : ℕ) (w : List ℕ) → is_before d (n + 1) (key_of n d 0, w) ≡ true
-here_before d n w = grind (arith, nat_tests)
-
-both : (a b : Bool) → (a && b) ≡ true → (a ≡ true) × (b ≡ true)
-both true b is = (refl, is)
-both false b is = cc
-
-joined : (a b : Bool) → a ≡ true → b ≡ true → (a && b) ≡ true
-joined true b x y = y
-joined false b x y = cc
-
-pub all_still : (d n : ℕ) (rows : List SplitRow) → list_all (is_before d n) rows ≡ true → list_all (is_before d (n + 1)) rows ≡ true
-all_still d n [] all = refl
-all_still d n (x ∷ xs) all = let h = both (is_before d n x) (list_all (is_before d n) xs) all in joined (is_before d (n + 1) x) _ (still_before d n x h.0) (all_still d n xs h.1)
-
-pub all_next : (d n : ℕ) (rows : List SplitRow) → list_all (is_before d n) rows ≡ true → list_all (is_before (d + 1) 0) rows ≡ true
-all_next d n [] all = refl
-all_next d n (x ∷ xs) all = let h = both (is_before d n x) (list_all (is_before d n) xs) all in joined (is_before (d + 1) 0 x) _ (before_next d n x h.0) (all_next d n xs h.1)
-
-fresh_none : (d n : ℕ) (rows : List SplitRow) → list_all (is_before d n) rows ≡ true → row_of rows (key_of n d 0) ≡ None
-fresh_none d n [] all = refl
-fresh_none d n (x ∷ xs) all =
-    let h = both (is_before d n x) (list_all (is_before d n) xs) all in
-    ap (λ b. cond b (Some x.1) (lookup (is_at (split_cmp (key_of n d 0))) xs)) (before_differs d n x h.0) ∙ fresh_none d n xs h.1
-
-equal_is : (o : Ordering) → is_eq o ≡ false → o ≡ Equal → ⊥
+pub equal_is : (o : Ordering) → is_eq o ≡ false → o ≡ Equal → ⊥
 equal_is o unequal is = differ (sym (ap is_eq is) ∙ unequal)
   where
     differ : true ≡ false → ⊥
     differ e = cc
 
-put_count : (d n : ℕ) (w : List ℕ) (rows : List SplitRow) → list_all (is_before d n) rows ≡ true → length (put_in rows (key_of n d 0) w) ≡ length rows + 1
-put_count d n w [] all = refl
-put_count d n w (x ∷ xs) all =
-    let h = both (is_before d n x) (list_all (is_before d n) xs) all in
-    let rest = put_count d n w xs h.1 in
+put_count : (n d : ℕ) (w : List ℕ) (rows : List SplitRow) → has_split rows n d ≡ false → length (put_in rows (key_of n d 0) w) ≡ length rows + 1
+put_count n d w [] none = refl
+put_count n d w (x ∷ xs) none =
+    let h = none_of (is_of n d x) (has_split xs n d) none in
+    let rest = put_count n d w xs h.1 in
     (elim (split_cmp (key_of n d 0) x.0) as (λ o. split_cmp (key_of n d 0) x.0 ≡ o → length (match_ordering o ((key_of n d 0, w) ∷ x ∷ xs) ((x.0, w) ∷ xs) (x ∷ put_in xs (key_of n d 0) w)) ≡ length (x ∷ xs) + 1) [
       | Less ↦ λ e. omega arith
-      | Equal ↦ λ e. absurd (equal_is (split_cmp (key_of n d 0) x.0) (before_differs d n x h.0) e)
+      | Equal ↦ λ e. absurd (equal_is (split_cmp (key_of n d 0) x.0) (other_differs n d x h.0) e)
       | Greater ↦ λ e. omega arith
     ]) refl
 
-put_before : (d n : ℕ) (w : List ℕ) (rows : List SplitRow) → list_all (is_before d n) rows ≡ true → list_all (is_before d (n + 1)) (put_in rows (key_of n d 0) w) ≡ true
-put_before d n w [] all = joined (is_before d (n + 1) (key_of n d 0, w)) true (here_before d n w) refl
-put_before d n w (x ∷ xs) all =
-    let h = both (is_before d n x) (list_all (is_before d n) xs) all in
-    let rest = put_before d n w xs h.1 in
-    (elim (split_cmp (key_of n d 0) x.0) as (λ o. split_cmp (key_of n d 0) x.0 ≡ o → list_all (is_before d (n + 1)) (match_ordering o ((key_of n d 0, w) ∷ x ∷ xs) ((x.0, w) ∷ xs) (x ∷ put_in xs (key_of n d 0) w)) ≡ true) [
-      | Less ↦ λ e. joined (is_before d (n + 1) (key_of n d 0, w)) _ (here_before d n w) (all_still d n (x ∷ xs) all)
-      | Equal ↦ λ e. absurd (equal_is (split_cmp (key_of n d 0) x.0) (before_differs d n x h.0) e)
-      | Greater ↦ λ e. joined (is_before d (n + 1) x) _ (still_before d n x h.0) rest
+same_is : (n d : ℕ) (k k' : SplitKey) (w : List ℕ) → split_cmp k k' ≡ Equal → is_of n d (k', w) ≡ is_of n d (k, w)
+same_is n d k k' w same = grind (arith, nat_tests)
+
+-- the rows of another pair stay
+pub put_others : (n d : ℕ) (key : SplitKey) (w : List ℕ) (rows : List SplitRow) → is_of n d (key, w) ≡ false → filter (is_of n d) (put_in rows key w) ≡ filter (is_of n d) rows
+put_others n d key w [] other = ap (λ b. cond b ((key, w) ∷ []) []) other
+put_others n d key w (x ∷ xs) other =
+    (elim (split_cmp key x.0) as (λ o. split_cmp key x.0 ≡ o → filter (is_of n d) (match_ordering o ((key, w) ∷ x ∷ xs) ((x.0, w) ∷ xs) (x ∷ put_in xs key w)) ≡ filter (is_of n d) (x ∷ xs)) [
+      | Less ↦ λ e. ap (λ b. cond b ((key, w) ∷ filter (is_of n d) (x ∷ xs)) (filter (is_of n d) (x ∷ xs))) other
+      | Equal ↦ λ e.
+          let no : is_of n d x ≡ false = same_is n d key x.0 w e ∙ other in
+          ap (λ b. cond b ((x.0, w) ∷ filter (is_of n d) xs) (filter (is_of n d) xs)) no ∙ sym (ap (λ b. cond b (x ∷ filter (is_of n d) xs) (filter (is_of n d) xs)) no)
+      | Greater ↦ λ e. ap (λ ys. cond (is_of n d x) (x ∷ ys) ys) (put_others n d key w xs other)
     ]) refl
 
 -- what a row that was taken makes of the rows
@@ -101,14 +86,15 @@ row_taken d next key w is =
     ]) is
 
 -- a row that was refused, in a slot and with a weight, would be one too many
-row_refused : (d : SplitsData) (key : SplitKey) (w : List ℕ) (fault : SplitFault) → with_row d key w ≡ Err fault → key.from < d.slots → 1 ≤ sum w → d.most_rows ≤ length d.rows
+row_refused : (d : SplitsData) (key : SplitKey) (w : List ℕ) (fault : SplitFault) → with_row d key w ≡ Err fault → key.from < d.slots → 1 ≤ sum w → (d.most_rows ≤ length d.rows) × (fault ≡ TooManyRows)
 row_refused d key w fault is slot some = go (nat_le d.slots key.from) (sum w == 0) (is_none (row_of d.rows key)) (nat_le d.most_rows (length d.rows)) is (grind (arith, nat_tests)) (grind (arith, nat_tests)) (λ e. grind (arith, nat_tests))
   where
-    go : (a b c e : Bool) → cond a (Err BadSlots) (cond b (Err ZeroWeight) (cond (c && e) (Err TooManyRows) (Ok (with_rows d (put_in d.rows key w))))) ≡ Err fault → a ≡ false → b ≡ false → (e ≡ true → d.most_rows ≤ length d.rows) → d.most_rows ≤ length d.rows
+    go : (a b c e : Bool) → cond a (Err BadSlots) (cond b (Err ZeroWeight) (cond (c && e) (Err TooManyRows) (Ok (with_rows d (put_in d.rows key w))))) ≡ Err fault → a ≡ false → b ≡ false → (e ≡ true → d.most_rows ≤ length d.rows)
+        → (d.most_rows ≤ length d.rows) × (fault ≡ TooManyRows)
     go true b c e is x y most = cc
     go false true c e is x y most = cc
     go false false false e is x y most = cc
-    go false false true true is x y most = most refl
+    go false false true true is x y most = (most refl, cc)
     go false false true false is x y most = cc
 
 pub split_taken : (s next : ScenarioData) (key : SplitKey) (w : List ℕ) → with_split s key w ≡ Ok next → (next ≡ record s { splits = put_in s.splits key w }) × (is_over (splits_of s) key ≡ false)
@@ -122,12 +108,12 @@ split_taken s next key w is = go (with_row (splits_of s) key w) refl is
         (value ∙ ap (λ (z : SplitsData). record s { splits = z.rows }) t.0, t.1)
     go (Err fault) made e = cc
 
-pub split_refused : (s : ScenarioData) (key : SplitKey) (w : List ℕ) (fault : SplitFault) → with_split s key w ≡ Err fault → key.from < s.setup.slots → 1 ≤ sum w → s.setup.most_split_rows ≤ length s.splits
+pub split_refused : (s : ScenarioData) (key : SplitKey) (w : List ℕ) (fault : SplitFault) → with_split s key w ≡ Err fault → key.from < s.setup.slots → 1 ≤ sum w → (s.setup.most_split_rows ≤ length s.splits) × (fault ≡ TooManyRows)
 split_refused s key w fault is slot some = go (with_row (splits_of s) key w) refl is
   where
-    go : (r : Result SplitsData SplitFault) → with_row (splits_of s) key w ≡ r → (r >>= λ (n : SplitsData). Ok (record s { splits = n.rows })) ≡ Err fault → s.setup.most_split_rows ≤ length s.splits
+    go : (r : Result SplitsData SplitFault) → with_row (splits_of s) key w ≡ r → (r >>= λ (n : SplitsData). Ok (record s { splits = n.rows })) ≡ Err fault → (s.setup.most_split_rows ≤ length s.splits) × (fault ≡ TooManyRows)
     go (Ok n) made e = cc
-    go (Err f) made e = row_refused (splits_of s) key w f made slot some
+    go (Err f) made e = row_refused (splits_of s) key w fault (made ∙ (let same : f ≡ fault = cc in ap Err same)) slot some
 
 room_left : (d : SplitsData) (key : SplitKey) → row_of d.rows key ≡ None → is_over d key ≡ false → length d.rows < d.most_rows
 room_left d key none over =
@@ -135,21 +121,20 @@ room_left d key none over =
     grind (arith, nat_tests)
 
 -- ---- rows set one after the other
-pub one_set : (s next : ScenarioData) (d n : ℕ) (w : List ℕ) → list_all (is_before d n) s.splits ≡ true → with_split s (key_of n d 0) w ≡ Ok next → HasSet s ((key_of n d 0, w) ∷ []) next d (n + 1)
-one_set s next d n w before is =
+pub one_set : (s next : ScenarioData) (d n : ℕ) (w : List ℕ) → has_split s.splits n d ≡ false → with_split s (key_of n d 0) w ≡ Ok next → HasSet s ((key_of n d 0, w) ∷ []) next
+one_set s next d n w none is =
     let t = split_taken s next (key_of n d 0) w is in
     let rows : next.splits ≡ put_in s.splits (key_of n d 0) w = ap (λ (z : ScenarioData). z.splits) t.0 in
-    let count : length next.splits ≡ length s.splits + 1 = ap length rows ∙ put_count d n w s.splits before in
+    let count : length next.splits ≡ length s.splits + 1 = ap length rows ∙ put_count n d w s.splits none in
     record {
       set = ap (λ (r : Result ScenarioData SplitFault). r >>= λ (z : ScenarioData). Ok z) is;
       rest = t.0 ∙ ap (λ xs. record s { splits = xs }) (sym rows);
       count = count;
-      few = λ small. let room = room_left (splits_of s) (key_of n d 0) (fresh_none d n s.splits before) t.1 in omega arith;
-      before = subst (λ xs. list_all (is_before d (n + 1)) xs ≡ true) (sym rows) (put_before d n w s.splits before);
+      few = λ small. let room = room_left (splits_of s) (key_of n d 0) (fresh_none n d s.splits none) t.1 in omega arith;
     }
 
-pub none_set : (s : ScenarioData) (d n : ℕ) → list_all (is_before d n) s.splits ≡ true → HasSet s [] s d n
-none_set s d n before = record { set = refl; rest = refl; count = omega arith; few = λ small. small; before = before }
+pub none_set : (s : ScenarioData) → HasSet s [] s
+none_set s = record { set = refl; rest = refl; count = omega arith; few = λ small. small }
 
 with_splits_append : (s : ScenarioData) (xs ys : List SplitRow) → with_splits s (xs ++ ys) ≡ (with_splits s xs >>= λ (z : ScenarioData). with_splits z ys)
 with_splits_append s [] ys = refl
@@ -159,8 +144,8 @@ with_splits_append s (x ∷ xs) ys =
       | Err fault ↦ refl
     ]
 
-pub set_then : (s m k : ScenarioData) (xs ys : List SplitRow) (d n d' n' : ℕ) → HasSet s xs m d n → HasSet m ys k d' n' → HasSet s (xs ++ ys) k d' n'
-set_then s m k xs ys d n d' n' a b = record {
+pub set_then : (s m k : ScenarioData) (xs ys : List SplitRow) → HasSet s xs m → HasSet m ys k → HasSet s (xs ++ ys) k
+set_then s m k xs ys a b = record {
   set = with_splits_append s xs ys ∙ ap (λ (r : Result ScenarioData SplitFault). r >>= λ (z : ScenarioData). with_splits z ys) a.set ∙ b.set;
   rest = b.rest ∙ ap (λ (z : ScenarioData). record z { splits = k.splits }) a.rest;
   count = (let x = a.count in let y = b.count in let long = length-append xs ys in omega arith);
@@ -169,25 +154,77 @@ set_then s m k xs ys d n d' n' a b = record {
       let first = a.few small in
       let second = b.few (omega arith) in
       omega arith;
-  before = b.before;
 }
 
-pub set_still : (s m : ScenarioData) (xs : List SplitRow) (d n : ℕ) → HasSet s xs m d n → HasSet s xs m d (n + 1)
-set_still s m xs d n a = record { set = a.set; rest = a.rest; count = a.count; few = a.few; before = all_still d n m.splits a.before }
+-- a row too many is one too many with rows before it, and with rows behind it
+pub too_many_then : (s m : ScenarioData) (xs ys zs : List SplitRow) → HasSet s xs m → AreTooMany m ys → AreTooMany s ((xs ++ ys) ++ zs)
+too_many_then s m xs ys zs a b = record {
+  refused =
+      with_splits_append s (xs ++ ys) zs
+      ∙ ap (λ (r : Result ScenarioData SplitFault). r >>= λ (z : ScenarioData). with_splits z zs)
+      (with_splits_append s xs ys ∙ ap (λ (r : Result ScenarioData SplitFault). r >>= λ (z : ScenarioData). with_splits z ys) a.set ∙ b.refused);
+  over = (
+      let most : m.setup.most_split_rows ≡ s.setup.most_split_rows = ap (λ (z : ScenarioData). z.setup.most_split_rows) a.rest in
+      let x = a.count in
+      let y = b.over in
+      let long = length-append xs ys in
+      let longer = length-append (xs ++ ys) zs in
+      omega arith
+      );
+}
 
-pub set_next : (s m : ScenarioData) (xs : List SplitRow) (d n : ℕ) → HasSet s xs m d n → HasSet s xs m (d + 1) 0
-set_next s m xs d n a = record { set = a.set; rest = a.rest; count = a.count; few = a.few; before = all_next d n m.splits a.before }
+-- rows of other pairs leave those of a pair
+pub others_stay : (rows : List SplitRow) (s next : ScenarioData) (n d : ℕ) → with_splits s rows ≡ Ok next → list_any (is_of n d) rows ≡ false → filter (is_of n d) next.splits ≡ filter (is_of n d) s.splits
+others_stay [] s next n d set others = ap (λ (z : ScenarioData). filter (is_of n d) z.splits) (let same : next ≡ s = cc in same)
+others_stay (x ∷ xs) s next n d set others = go (with_split s x.0 x.1) refl set (λ m e. others_stay xs m next n d e h.1)
+  where
+    h : (is_of n d x ≡ false) × (list_any (is_of n d) xs ≡ false)
+    h = none_of (is_of n d x) (list_any (is_of n d) xs) others
 
--- ---- lists end to end
-pub lists_grow : {A : Type 0} (f : ℕ → List A) (n m : ℕ) → n ≤ m → length (lists_below n f) ≤ length (lists_below m f)
-lists_grow f n zero low = subst (λ k. length (lists_below k f) ≤ length (lists_below zero f)) (sym (let e : n ≡ zero = omega arith in e)) (omega arith)
-lists_grow f n (suc m) low = elim (decide n (suc m)) [
-  | inl same ↦ subst (λ k. length (lists_below n f) ≤ length (lists_below k f)) same (omega arith)
-  | inr other ↦ let before = lists_grow f n m (omega arith) in let long = length-append (lists_below m f) (f m) in omega arith
+    go : (r : Result ScenarioData SplitFault) → with_split s x.0 x.1 ≡ r → (r >>= λ (z : ScenarioData). with_splits z xs) ≡ Ok next
+        → ((m : ScenarioData) → with_splits m xs ≡ Ok next → filter (is_of n d) next.splits ≡ filter (is_of n d) m.splits) → filter (is_of n d) next.splits ≡ filter (is_of n d) s.splits
+    go (Ok m) made e rest =
+        rest m e
+        ∙ ap (λ (z : ScenarioData). filter (is_of n d) z.splits) (split_taken s m x.0 x.1 made).0
+        ∙ put_others n d x.0 x.1 s.splits h.0
+    go (Err fault) made e rest = cc
+
+abbrev pub any_in : List SplitRow → Bool
+any_in [] = false
+any_in (x ∷ xs) = true
+
+pub any_filter : (p : SplitRow → Bool) (rows : List SplitRow) → list_any p rows ≡ any_in (filter p rows)
+any_filter p [] = refl
+any_filter p (x ∷ xs) = elim (p x) as (λ b. (b || list_any p xs) ≡ any_in (cond b (x ∷ filter p xs) (filter p xs))) [
+  | true ↦ refl
+  | false ↦ any_filter p xs
 ]
 
-pub lists_reach : {A : Type 0} (f : ℕ → List A) (n m : ℕ) → n < m → length (lists_below n f) + length (f n) ≤ length (lists_below m f)
-lists_reach f n m low = let grow = lists_grow f (suc n) m low in let long = length-append (lists_below n f) (f n) in omega arith
+-- nor has a pair a row then where it had none
+pub splits_stay : (rows : List SplitRow) (s next : ScenarioData) (n d : ℕ) → with_splits s rows ≡ Ok next → list_any (is_of n d) rows ≡ false → has_split next.splits n d ≡ has_split s.splits n d
+splits_stay rows s next n d set others = any_filter (is_of n d) next.splits ∙ ap any_in (others_stay rows s next n d set others) ∙ sym (any_filter (is_of n d) s.splits)
 
+-- ---- lists end to end
 pub lists_more : {A : Type 0} (f : ℕ → List A) (n : ℕ) → lists_below (n + 1) f ≡ lists_below n f ++ f n
 lists_more f n = ap (λ k. lists_below k f) (let e : n + 1 ≡ suc n = omega arith in e)
+
+-- what lies behind the list of a number
+pub lists_behind : {A : Type 0} (f : ℕ → List A) (n m : ℕ) → n < m → (rest : List A) × (lists_below m f ≡ ((lists_below n f ++ f n) ++ rest))
+lists_behind f n zero low = absurd (omega arith)
+lists_behind f n (suc m) low = elim (decide n m) [
+  | inl same ↦ ([], subst (λ k. lists_below (suc m) f ≡ ((lists_below k f ++ f k) ++ [])) (sym same) (sym (append-nil (lists_below m f ++ f m))))
+  | inr other ↦
+      let before = lists_behind f n m (omega arith) in
+      (before.0 ++ f m, ap (λ xs. xs ++ f m) before.1 ∙ append_assoc (lists_below n f ++ f n) before.0 (f m))
+]
+
+pub lists_same : {A : Type 0} (f g : ℕ → List A) (n : ℕ) → ((i : ℕ) → i < n → f i ≡ g i) → lists_below n f ≡ lists_below n g
+lists_same f g zero same = refl
+lists_same f g (suc n) same = ap (λ xs. xs ++ f n) (lists_same f g n (λ i low. same i (omega arith))) ∙ ap (λ xs. lists_below n g ++ xs) (same n (omega arith))
+
+pub lists_none : {A : Type 0} (p : A → Bool) (f : ℕ → List A) (n : ℕ) → ((i : ℕ) → i < n → list_any p (f i) ≡ false) → list_any p (lists_below n f) ≡ false
+lists_none p f zero none = refl
+lists_none p f (suc n) none = list_any-append p (lists_below n f) (f n) ∙ either (list_any p (lists_below n f)) (list_any p (f n)) (lists_none p f n (λ i low. none i (omega arith))) (none n (omega arith))
+  where
+    either : (a b : Bool) → a ≡ false → b ≡ false → (a || b) ≡ false
+    either a b left right = ap (λ c. c || b) left ∙ right

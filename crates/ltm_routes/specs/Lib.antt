@@ -3,5 +3,7 @@ pub mod Routes
 pub mod Potentials
 pub mod Backward
 pub mod Split
+pub mod Least
+pub mod Missing
 pub mod Setting
 pub mod Texts

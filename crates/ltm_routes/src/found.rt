@@ -4,6 +4,7 @@ ghost use Rattle.ltm_scenario.specs.Reads.{destination_node};
 ghost use Rattle.ltm_routes.specs.Roads.{roads_of};
 ghost use Rattle.ltm_routes.specs.Potentials.{potential_at, AreLeastTimes, IsSmall, is_tight_over};
 ghost use Rattle.ltm_routes.specs.Split.{AreRoutes, AreAllRoutes, AreFlags, begins_at};
+ghost use Rattle.ltm_routes.specs.Least.{routes_of};
 
 use crate::potentials::is_tight_over;
 use crate::roads::keep_roads;
@@ -46,7 +47,22 @@ impl Model for Routes {
 
 impl Routes {
     /// The routes to a destination.
+    #[tactic(auto, using(crate::proofs::There::routes_here))]
     pub fn to(alloc: Global, scenario: &Scenario, destination: u32) -> Result<Routes, NoMemory>
+        requires { destination < length scenario.now.destinations }
+        ensures routes { IfOk result (AreRoutes (roads_of scenario.now)
+            (destination_node scenario.now destination)) }
+        ensures reckoned { IfOk result (λ routes. routes ≡ routes_of scenario.now destination) }
+    {
+        keep_roads(scenario);
+        match Routes::search(alloc, scenario, destination) {
+            Ok(routes) => Ok(routes),
+            Err(fault) => Err(fault),
+        }
+    }
+
+    // The least times, and the links that are tight in them.
+    fn search(alloc: Global, scenario: &Scenario, destination: u32) -> Result<Routes, NoMemory>
         requires { destination < length scenario.now.destinations }
         ensures { IfOk result (AreRoutes (roads_of scenario.now)
             (destination_node scenario.now destination)) }

@@ -1,13 +1,15 @@
 //! The split rows that send traffic along least routes.
-ghost use Rattle.std.specs.Prelude.{◌≡◌, ◌≢◌, ◌<◌, ◌≤◌, ◌+◌, List, [], length, true, Ok, Err, IfOk, OnOk};
-ghost use Rattle.std.specs.List.{list_all};
-ghost use Rattle.ltm_scenario.specs.Reads.{destination_node};
+ghost use Rattle.std.specs.Prelude.{◌≡◌, ◌≢◌, ◌<◌, ◌≤◌, [], length, Ok, Err, IfOk, OnOk};
+ghost use Rattle.ltm_splits.specs.declared.keys.SplitFault.TheVariants as refusal;
+ghost use Rattle.ltm_scenario.specs.Reads.{destination_node, has_split};
 ghost use Rattle.ltm_routes.specs.Roads.{roads_of};
-ghost use Rattle.ltm_routes.specs.Split.{RoutesData, AreRoutes, AreAllRoutes, weight_of, route_split, is_routed, rows_from, rows_to, route_splits, with_splits, KeepsRest};
-ghost use Rattle.ltm_routes.specs.Setting.{is_before, HasSet};
+ghost use Rattle.ltm_routes.specs.Split.{AreRoutes, AreAllRoutes, weight_of, route_split, is_routed, route_splits, with_splits, KeepsRest};
+ghost use Rattle.ltm_routes.specs.Least.{routes_of};
+ghost use Rattle.ltm_routes.specs.Missing.{is_missing, missing_from, missing_to, with_routes};
+ghost use Rattle.ltm_routes.specs.Setting.{HasSet, AreTooMany};
 
 use crate::faults::RoutesFault;
-use crate::found::{Routes, all_routes};
+use crate::found::Routes;
 use crate::roads::keep_roads;
 use ltm_network::links_at_their_places;
 use ltm_scenario::Scenario;
@@ -51,6 +53,23 @@ pub fn is_routed(scenario: &Scenario, destination: u32, routes: &Routes, node: N
     node.0 != scenario.destination_node(destination).0 && routes.potential(node).is_some()
 }
 
+/// Whether a node has a row for a destination in any slot.
+#[tactic(auto, using(crate::proofs::Has::begins_tells))]
+fn has_row(scenario: &Scenario, destination: u32, node: NodeId) -> bool
+    ensures { result ≡ has_split scenario.now.splits node.0 destination }
+{
+    scenario.splits().begins(node, destination).is_some()
+}
+
+/// Whether a node has a route and no row.
+fn is_missing(scenario: &Scenario, destination: u32, routes: &Routes, node: NodeId) -> bool
+    requires destination { destination < length scenario.now.destinations }
+    requires node { node.0 < length routes.now.potentials }
+    ensures { result ≡ is_missing scenario.now destination routes.now node.0 }
+{
+    !has_row(scenario, destination, node) && is_routed(scenario, destination, routes, node)
+}
+
 /// A row of least routes is refused only where memory is wanting, or where it would be one too many.
 fn fault_of(fault: SplitFault) -> RoutesFault
     ensures { result ≡ RoutesFault.TooManyRows → fault ≢ SplitFault.NoMemory }
@@ -63,7 +82,7 @@ fn fault_of(fault: SplitFault) -> RoutesFault
     }
 }
 
-/// Sets the row of a node, where it has one.
+/// Sets the row of a node, where it lacks one.
 fn set_row(
     alloc: Global,
     scenario: &mut Scenario,
@@ -75,18 +94,15 @@ fn set_row(
     requires node { node.0 < length scenario.old.network.nodes }
     requires routes { AreRoutes (roads_of scenario.old)
         (destination_node scenario.old destination) routes.now }
-    requires before { list_all (is_before destination node.0) scenario.old.splits ≡ true }
     ensures ok { OnOk result (HasSet scenario.old
-        (rows_from scenario.old destination routes.now node.0) scenario.new destination (node.0
-        + 1)) }
+        (missing_from scenario.old destination routes.now node.0) scenario.new) }
     ensures too_many { result ≡ Err RoutesFault.TooManyRows
-        → scenario.old.setup.most_split_rows < length scenario.old.splits
-        + length (rows_from scenario.old destination routes.now node.0) }
+        → AreTooMany scenario.old (missing_from scenario.old destination routes.now node.0) }
 {
     keep_roads(scenario);
     links_at_their_places();
     let _setup = scenario.setup();
-    if !is_routed(scenario, destination, routes, node) {
+    if !is_missing(scenario, destination, routes, node) {
         return Ok(());
     }
     let weights = route_split(alloc, scenario, routes, node)?;
@@ -96,7 +112,7 @@ fn set_row(
     }
 }
 
-/// Sets the rows of a destination.
+/// Sets the rows of a destination that nodes lack.
 fn set_rows_to(
     alloc: Global,
     scenario: &mut Scenario,
@@ -106,12 +122,10 @@ fn set_rows_to(
     requires destination { destination < length scenario.old.destinations }
     requires routes { AreRoutes (roads_of scenario.old)
         (destination_node scenario.old destination) routes.now }
-    requires before { list_all (is_before destination 0) scenario.old.splits ≡ true }
     ensures ok { OnOk result (HasSet scenario.old
-        (rows_to scenario.old destination routes.now) scenario.new (destination + 1) 0) }
+        (missing_to scenario.old destination routes.now) scenario.new) }
     ensures too_many { result ≡ Err RoutesFault.TooManyRows
-        → scenario.old.setup.most_split_rows < length scenario.old.splits
-        + length (rows_to scenario.old destination routes.now) }
+        → AreTooMany scenario.old (missing_to scenario.old destination routes.now) }
 {
     let nodes = scenario.network().nodes();
     for node in 0..nodes {
@@ -160,16 +174,36 @@ pub fn set_all(
     Ok(scenario)
 }
 
-/// Finds the routes to each destination and sets their splits.
-pub fn set_routes(alloc: Global, scenario: Scenario) -> Result<Scenario, RoutesFault>
-    requires { scenario.splits ≡ [] }
-    ensures set { IfOk result (λ next. (all : List RoutesData) × AreAllRoutes scenario all
-        × (length (route_splits scenario all) ≤ scenario.setup.most_split_rows)
-        × (with_splits scenario (route_splits scenario all) ≡ Ok next)) }
-    ensures too_many { result ≡ Err RoutesFault.TooManyRows
-        → (all : List RoutesData) × AreAllRoutes scenario all
-        × (scenario.setup.most_split_rows < length (route_splits scenario all)) }
+/// Finds the routes to a destination, and sets the rows that nodes lack.
+fn route_to(alloc: Global, scenario: &mut Scenario, destination: u32) -> Result<(), RoutesFault>
+    requires { destination < length scenario.old.destinations }
+    ensures ok { OnOk result (HasSet scenario.old
+        (missing_to scenario.old destination (routes_of scenario.old destination)) scenario.new) }
+    ensures too_many { result ≡ Err RoutesFault.TooManyRows → AreTooMany scenario.old
+        (missing_to scenario.old destination (routes_of scenario.old destination)) }
 {
-    let all = all_routes(alloc, &scenario)?;
-    set_all(alloc, scenario, &all)
+    let routes = Routes::to(alloc, scenario, destination)?;
+    set_rows_to(alloc, scenario, destination, &routes)
+}
+
+/// Gives each node that has no split row for a destination, in any slot, its route split from slot 0 on, in order of
+/// destination, then of node. What stands stays. A fault gives the scenario up.
+///
+/// It costs a search for each destination, and the memory of one beside the rows.
+#[tactic(auto, unfolding(crate::specs::Missing::with_routes))]
+pub fn set_routes(alloc: Global, scenario: &mut Scenario) -> Result<(), RoutesFault>
+    ensures ok { OnOk result (with_routes scenario.old ≡ Ok scenario.new) }
+    ensures rest { OnOk result (KeepsRest scenario.old scenario.new) }
+    ensures too_many { result ≡ Err RoutesFault.TooManyRows
+        → with_routes scenario.old ≡ Err refusal.TooManyRows }
+{
+    let _setup = scenario.setup();
+    for destination in 0..scenario.destinations().len() as u32 {
+        match route_to(alloc, scenario, destination) {
+            Ok(()) => {}
+            Err(RoutesFault::TooManyRows) => return Err(RoutesFault::TooManyRows),
+            Err(RoutesFault::NoMemory) => return Err(RoutesFault::NoMemory),
+        }
+    }
+    Ok(())
 }

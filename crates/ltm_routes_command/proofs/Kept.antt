@@ -19,13 +19,14 @@ use Rattle.ltm_casefile.specs.Tables.{with_file}
 use Rattle.ltm_casefile.specs.Case.{whole}
 use Rattle.ltm_casefile.specs.Roads.{unsplit_case_of}
 use Rattle.ltm_routes.specs.Split.{RoutesData, AreAllRoutes, route_splits, with_splits, KeepsRest}
+use Rattle.ltm_routes.specs.Missing.{with_routes}
 use Rattle.ltm_routes_command.specs.declared.lines.RouteLines.{RouteLines}
 use Rattle.ltm_routes_command.specs.declared.lines.RouteLines.TheVariants as lines
 use Rattle.ltm_routes_command.specs.Lines.{routes_text}
 use Rattle.ltm_routes_command.specs.Routing.{routed, is_readable, readable, RoutesAnswer, SaysOfRoutes, AnswersFault}
 use Rattle.ltm_routes_command.specs.File.{IsNamed, IsSplitsOf, IsTimesOf, IsSplitsFile}
 use Rattle.ltm_routes_command.proofs.Text.{text_back}
-use Rattle.ltm_routes_command.proofs.WholeCase.{whole_case_told}
+use Rattle.ltm_routes_command.proofs.WholeCase.{whole_case_told, routed_case_told}
 
 pub still : (roads split : ScenarioData) (all : List RoutesData) → KeepsRest roads split → AreAllRoutes roads all → AreAllRoutes split all
 still roads split all rest are = subst (λ z. AreAllRoutes z all) (sym rest) (record { routes_for_each = are.routes_for_each; routes = are.routes })
@@ -75,15 +76,16 @@ fault_told which told roads (Err fault.NoHistory) said is = (Ok roads, said, is)
 fault_told which told roads (Err fault.NoMemory) said is = tt
 
 pub splits_are : (roads split : ScenarioData) (all : List RoutesData) (text : List ℕ) → IsScenario roads → NamesAreFound → LinksAtTheirPlaces → AreAllRoutes roads all → KeepsRest roads split
-    → with_splits roads (route_splits roads all) ≡ Ok split → length text ≤ longest_file → IsValid split → whole split ≡ Ok split
+    → with_splits roads (route_splits roads all) ≡ Ok split → with_routes roads ≡ with_splits roads (route_splits roads all) → length text ≤ longest_file → IsValid split → whole split ≡ Ok split
     → All (IsNamed split.network split.destinations) (route_splits split all) → text ≡ routes_text lines.Splits split all → IsSplitsOf roads split text
-splits_are roads split all text scenario found places are rest set short valid is_whole named is =
+splits_are roads split all text scenario found places are rest set given short valid is_whole named is =
     let text_is : text ≡ routes_text lines.Splits roads all = is ∙ text_kept lines.Splits roads split all rest in
     let names = named_kept roads split all rest named in
     record {
       routes = all;
       least = are;
       set = set;
+      given = given ∙ set;
       valid = valid;
       whole = is_whole;
       text_is = text_is;
@@ -95,14 +97,15 @@ pub times_are : (roads split : ScenarioData) (all : List RoutesData) (text : Lis
 times_are roads split all text are rest is = record { routes = all; least = are; text_is = is ∙ text_kept lines.Times roads split all rest }
 
 -- the splits of roads that a folder tells
-pub splits_told : {A : Type 0} (told : Option Files) (roads : ScenarioData) (bytes : A → List ℕ) (r : Result A CaseFault) → IfSome told (λ files. unsplit_case_of files ≡ Ok roads) → OnOk r (IsScenario roads)
+pub splits_told : {A : Type 0} → ((s next : ScenarioData) → with_routes s ≡ Ok next → with_routes next ≡ Ok next) → (told : Option Files) (roads : ScenarioData) (bytes : A → List ℕ) (r : Result A CaseFault) → IfSome told (λ files. unsplit_case_of files ≡ Ok roads) → OnOk r (IsScenario roads)
     → IfOk r (λ t. (split : ScenarioData) × IsSplitsOf roads split (bytes t)) → IfOk r (λ t. IsSplitsFile told (bytes t))
-splits_told told roads bytes (Ok t) said scenario (split, splits) = record {
+splits_told settle told roads bytes (Ok t) said scenario (split, splits) = record {
   roads = roads;
   split = split;
   said = said;
   scenario = scenario;
   splits = splits;
-  whole_case = whole_case_told told (bytes t) roads split said splits.read_back splits.whole splits.short;
+  whole_case = whole_case_told told (bytes t) roads split said splits.read_back (settle roads split splits.given) splits.whole splits.short;
+  routed_case = routed_case_told told roads split said splits.given splits.whole;
 }
-splits_told told roads bytes (Err fault) said scenario are = tt
+splits_told settle told roads bytes (Err fault) said scenario are = tt

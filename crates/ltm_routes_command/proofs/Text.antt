@@ -1,5 +1,5 @@
 -- The text of route splits is read back as they were set.
-use Rattle.std.proofs.Common.{ℕ, zero, suc, ◌≡◌, ◌*◌, ◌≤◌, true, List, [], ◌∷◌, ◌++◌, length, map, Ok, refl, ap, sym, subst, arith, ◌∙◌, length-append}
+use Rattle.std.proofs.Common.{ℕ, zero, suc, ◌≡◌, ◌*◌, ◌≤◌, true, List, [], ◌∷◌, ◌++◌, length, map, Ok, refl, ap, sym, subst, arith, ◌∙◌, length-append, append-nil}
 use Rattle.std.specs.Prelude.{All, codes}
 use Rattle.std.specs.List.{flat_map}
 use Rattle.std.proofs.lemmas.Bool.Decides.{nat_tests}
@@ -75,6 +75,14 @@ same_back s (row ∷ rows) = ap (λ t. fields_at s row ∷ t) (same_back s rows)
 table_is : (s : ScenarioData) (rows : List Fields) → table_added table.Splits s (header_fields ∷ rows) ≡ rows_from file.Splits split_added 2 s rows
 unfolding table_added
 table_is s rows = refl
+
+-- a text without records says nothing
+pub header_back : (s : ScenarioData) → with_file table.Splits s splits_header_line ≡ Ok s
+unfolding rows_text
+header_back s =
+    ap (λ t. table_added table.Splits s (records_of t)) (sym (append-nil splits_header_line))
+    ∙ ap (table_added table.Splits s) (file_read [])
+    ∙ table_is s []
 
 pub text_back : (s split : ScenarioData) (all : List RoutesData) → IsScenario s → NamesAreFound → LinksAtTheirPlaces → All (Named s) (route_splits s all) → with_splits s (route_splits s all) ≡ Ok split
     → with_file table.Splits s (routes_text lines.Splits s all) ≡ Ok split

@@ -16,7 +16,7 @@ use crate::texts::routes_text;
 use ltm_casefile::{CaseCause, CaseFault, File, LONGEST_FILE, check_case, read_roads};
 use ltm_io::Folder;
 use ltm_network::{links_at_their_places, names_are_found};
-use ltm_routes::{Routes, RoutesFault, all_routes, set_all};
+use ltm_routes::{Routes, RoutesFault, all_are_missing, all_routes, routes_settle, set_all};
 use ltm_scenario::Scenario;
 use std::alloc::Global;
 
@@ -61,6 +61,7 @@ fn text_over(alloc: Global, lines: RouteLines, roads: Scenario) -> Result<Vec<u8
 {
     names_are_found();
     links_at_their_places();
+    all_are_missing();
     let _setup = roads.setup();
     let all = all_routes(alloc, &roads)?;
     let split = match split_roads(alloc, roads, &all) {
@@ -87,7 +88,7 @@ fn is_readable(lines: RouteLines, text: &[u8]) -> bool
 /// The lines of least free-flow routes over what the setup, the links and the demand of a folder say: for each node and
 /// destination with a route, in order of destination, then of node, the record of its split row or the time of its routes.
 ///
-/// The first fault is told: of the three files as `read_roads` has it; then more route splits than the setup allows; then the
+/// The first fault is told: of these files, and of the profile of a matrix, as `read_roads` has it; then more route splits than the setup allows; then the
 /// first rule of a valid case that is broken once they are set, with row 0 of the whole case; then splits that are too long to
 /// be read. The setup may ask for signals and for entry limits; neither is fetched.
 pub fn route_text<F: Folder>(
@@ -104,7 +105,7 @@ pub fn route_text<F: Folder>(
     ensures times { lines ≡ RouteLines.Times
         → IfOk result (λ text. IsTimesFile (F.told folder.old) text.items) }
 
-    // A file is not given only where its count of faults rose in this call, and it is one of these three.
+    // A file is not given only where its count of faults rose in this call, and it is one of these or the profile.
     ensures risen { IfErr result (HasRisen (F.faults folder.old) (F.faults folder.new)) }
     ensures asked { IfErr result (WasAsked is_of_roads) }
 
@@ -113,6 +114,7 @@ pub fn route_text<F: Folder>(
     ensures others { (d : Doc) → is_of_roads d ≡ false
         → F.faults folder.new d ≡ F.faults folder.old d }
 {
+    routes_settle();
     match read_roads(alloc, folder) {
         Ok(roads) => return text_over(alloc, lines, roads),
         Err(fault) => return Err(fault),

@@ -3,7 +3,7 @@ use Rattle.ltm_scenario.specs.Data.{ScenarioData}
 use Rattle.ltm_scenario.specs.Reads.{destination_node}
 use Rattle.ltm_routes.specs.Roads.{roads_of}
 use Rattle.ltm_routes.specs.Split.{RoutesData, AreRoutes, routes_to}
-use Rattle.ltm_routes.proofs.Placed.{routes_still, routes_are, destination_set, destination_over}
+use Rattle.ltm_routes.proofs.Placed.{routes_still, routes_are, destination_set, destination_over, all_over}
 use Rattle.ltm_routes.proofs.set_rows.set_all.Goals as goal
 
 pub set_rows_to-requires-clause-routes : goal.set_rows_to-requires-clause-routes
@@ -27,8 +27,9 @@ returns-in-Err-TooManyRows-clause-too_many c = λ e.
     let long = c.requires.routes.routes_for_each in
     let low : d < length s.destinations = omega arith in
     let inside : d < length all = omega arith in
-    destination_over s m all d (length s.destinations) c.index-all-destination.result (routes_are all d c.index-all-destination.result inside c.index-all-destination.is)
-    c.loop-destination.invariant c.requires.none low (c.in-Err-TooManyRows.ensures.too_many (ap Err c.in-Err-TooManyRows.field-0-is))
+    all_over s all c.requires.none
+    (destination_over s m (routes_to all) d (length s.destinations) c.index-all-destination.result (routes_are all d c.index-all-destination.result inside c.index-all-destination.is)
+    c.loop-destination.invariant low (c.in-Err-TooManyRows.ensures.too_many (ap Err c.in-Err-TooManyRows.field-0-is)))
 
 pub loop-destination-preserved : goal.loop-destination-preserved
 loop-destination-preserved c =
@@ -39,4 +40,4 @@ loop-destination-preserved c =
     let long = c.requires.routes.routes_for_each in
     let low : d < length s.destinations = omega arith in
     let inside : d < length all = omega arith in
-    destination_set s m c.set_rows_to.new.scenario all d c.index-all-destination.result (routes_are all d c.index-all-destination.result inside c.index-all-destination.is) c.loop-destination.invariant c.in-Ok.ensures.ok
+    destination_set s m c.set_rows_to.new.scenario (routes_to all) d c.index-all-destination.result (routes_are all d c.index-all-destination.result inside c.index-all-destination.is) c.loop-destination.invariant c.in-Ok.ensures.ok

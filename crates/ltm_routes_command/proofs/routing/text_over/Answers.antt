@@ -47,6 +47,7 @@ returns-clause-splits c = λ splits.
       split,
       splits_are roads split all _ c.setup-setup.ensures.scenario c.names_are_found.ensures c.links_at_their_places.ensures c.in_ok-all.ensures c.in-Ok.ensures.rest
           (subst (λ a. with_splits roads (route_splits roads a) ≡ Ok split) c.deref.ensures.value c.in-Ok.ensures.set)
+          (c.all_are_missing.ensures roads all c.setup-setup.ensures.scenario c.in_ok-all.ensures c.requires)
           (splits_short c.args.lines c.in_ok-text.text.items splits (ap (is_readable c.args.lines) (sym c.deref-3.ensures.value) ∙ sym c.is_readable.ensures ∙ c.if-not-is_readable.false))
           c.in-Ok.ensures.valid c.in-Ok.ensures.whole
           (subst (λ a. All (IsNamed split.network split.destinations) (route_splits split a)) c.deref-2.ensures.value (c.in_ok-text.ensures.named splits))
