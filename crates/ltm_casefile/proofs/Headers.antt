@@ -4,7 +4,7 @@ use Rattle.std.specs.Prelude.{codes, if◌then◌else◌}
 use Rattle.std.proofs.lemmas.Bool.{eqb-true}
 use Rattle.ltm_records.specs.Fields.{Fields, field, has, same}
 use Rattle.ltm_casefile.specs.declared.columns.Columns.{Columns}
-use Rattle.ltm_casefile.specs.Columns.{one_if, limits_field, cells_field, rows_field, links_field, destinations_field, moves_field, carry_field, history_field, width_of, columns_of, is_setup_header}
+use Rattle.ltm_casefile.specs.Columns.{one_if, limits_field, cells_field, rows_field, links_field, destinations_field, moves_field, carry_field, history_field, routes_field, width_of, columns_of, is_setup_header}
 use Rattle.ltm_casefile.specs.Headers.{if_there, header_of, HeadersAreTaken, ColumnsAreAtTheirNames}
 
 -- ---- all columns: a test that each passes
@@ -29,8 +29,8 @@ agreed true false h = absurd cc
 agreed false true h = absurd cc
 agreed false false h = refl
 
-abbrev with : Bool → Bool → Bool → Bool → Bool → Bool → Bool → Bool → Bool → Columns
-with signals limits cells rows links destinations moves carry history =
+abbrev with : Bool → Bool → Bool → Bool → Bool → Bool → Bool → Bool → Bool → Bool → Columns
+with signals limits cells rows links destinations moves carry history routes =
     record {
       signals = signals;
       limits = limits;
@@ -41,32 +41,34 @@ with signals limits cells rows links destinations moves carry history =
       moves = moves;
       carry = carry;
       history = history;
+      routes = routes;
     }
 
 abbrev is_read : Columns → Columns → Bool
 is_read c r =
     agree r.signals c.signals && (agree r.limits c.limits && (agree r.cells c.cells && (agree r.rows c.rows && (agree r.links c.links
-    && (agree r.destinations c.destinations && (agree r.moves c.moves && (agree r.carry c.carry && agree r.history c.history)))))))
+    && (agree r.destinations c.destinations && (agree r.moves c.moves && (agree r.carry c.carry && (agree r.history c.history && agree r.routes c.routes))))))))
 
 abbrev taken_as : Columns → Bool
 taken_as c = is_setup_header (header_of c) && is_read c (columns_of (header_of c))
 
 -- what holds of all columns, found by trying them
 abbrev all : (Columns → Bool) → Bool
-all f = each (λ r. each (λ s. each (λ t. each (λ u. each (λ v. each (λ w. each (λ x. each (λ y. each (λ z. f (with r s t u v w x y z))))))))))
+all f = each (λ q. each (λ r. each (λ s. each (λ t. each (λ u. each (λ v. each (λ w. each (λ x. each (λ y. each (λ z. f (with q r s t u v w x y z)))))))))))
 
 one : (f : Columns → Bool) → all f ≡ true → (c : Columns) → f c ≡ true
 one f h c =
-    passes (λ z. f (with c.signals c.limits c.cells c.rows c.links c.destinations c.moves c.carry z))
-    (passes (λ y. each (λ z. f (with c.signals c.limits c.cells c.rows c.links c.destinations c.moves y z)))
-    (passes (λ x. each (λ y. each (λ z. f (with c.signals c.limits c.cells c.rows c.links c.destinations x y z))))
-    (passes (λ w. each (λ x. each (λ y. each (λ z. f (with c.signals c.limits c.cells c.rows c.links w x y z)))))
-    (passes (λ v. each (λ w. each (λ x. each (λ y. each (λ z. f (with c.signals c.limits c.cells c.rows v w x y z))))))
-    (passes (λ u. each (λ v. each (λ w. each (λ x. each (λ y. each (λ z. f (with c.signals c.limits c.cells u v w x y z)))))))
-    (passes (λ t. each (λ u. each (λ v. each (λ w. each (λ x. each (λ y. each (λ z. f (with c.signals c.limits t u v w x y z))))))))
-    (passes (λ s. each (λ t. each (λ u. each (λ v. each (λ w. each (λ x. each (λ y. each (λ z. f (with c.signals s t u v w x y z)))))))))
-    (passes (λ r. each (λ s. each (λ t. each (λ u. each (λ v. each (λ w. each (λ x. each (λ y. each (λ z. f (with r s t u v w x y z))))))))))
-    h c.signals) c.limits) c.cells) c.rows) c.links) c.destinations) c.moves) c.carry) c.history
+    passes (λ z. f (with c.signals c.limits c.cells c.rows c.links c.destinations c.moves c.carry c.history z))
+    (passes (λ y. each (λ z. f (with c.signals c.limits c.cells c.rows c.links c.destinations c.moves c.carry y z)))
+    (passes (λ x. each (λ y. each (λ z. f (with c.signals c.limits c.cells c.rows c.links c.destinations c.moves x y z))))
+    (passes (λ w. each (λ x. each (λ y. each (λ z. f (with c.signals c.limits c.cells c.rows c.links c.destinations w x y z)))))
+    (passes (λ v. each (λ w. each (λ x. each (λ y. each (λ z. f (with c.signals c.limits c.cells c.rows c.links v w x y z))))))
+    (passes (λ u. each (λ v. each (λ w. each (λ x. each (λ y. each (λ z. f (with c.signals c.limits c.cells c.rows u v w x y z)))))))
+    (passes (λ t. each (λ u. each (λ v. each (λ w. each (λ x. each (λ y. each (λ z. f (with c.signals c.limits c.cells t u v w x y z))))))))
+    (passes (λ s. each (λ t. each (λ u. each (λ v. each (λ w. each (λ x. each (λ y. each (λ z. f (with c.signals c.limits s t u v w x y z)))))))))
+    (passes (λ r. each (λ s. each (λ t. each (λ u. each (λ v. each (λ w. each (λ x. each (λ y. each (λ z. f (with c.signals r s t u v w x y z))))))))))
+    (passes (λ q. each (λ r. each (λ s. each (λ t. each (λ u. each (λ v. each (λ w. each (λ x. each (λ y. each (λ z. f (with q r s t u v w x y z)))))))))))
+    h c.signals) c.limits) c.cells) c.rows) c.links) c.destinations) c.moves) c.carry) c.history) c.routes
 
 all_taken : all taken_as ≡ true
 unfolding columns_of
@@ -87,7 +89,8 @@ same_columns c r h =
     let p5 = and_both (agree r.links c.links) _ p4.1 in
     let p6 = and_both (agree r.destinations c.destinations) _ p5.1 in
     let p7 = and_both (agree r.moves c.moves) _ p6.1 in
-    let p8 = and_both (agree r.carry c.carry) (agree r.history c.history) p7.1 in
+    let p8 = and_both (agree r.carry c.carry) _ p7.1 in
+    let p9 = and_both (agree r.history c.history) (agree r.routes c.routes) p8.1 in
     let signals = agreed r.signals c.signals p1.0 in
     let limits = agreed r.limits c.limits p2.0 in
     let cells = agreed r.cells c.cells p3.0 in
@@ -96,9 +99,10 @@ same_columns c r h =
     let destinations = agreed r.destinations c.destinations p6.0 in
     let moves = agreed r.moves c.moves p7.0 in
     let carry = agreed r.carry c.carry p8.0 in
-    let history = agreed r.history c.history p8.1 in
-    let all_same : with r.signals r.limits r.cells r.rows r.links r.destinations r.moves r.carry r.history ≡ with c.signals c.limits c.cells c.rows c.links c.destinations c.moves c.carry c.history =
-    rw (signals, limits, cells, rows, links, destinations, moves, carry, history) refl in
+    let history = agreed r.history c.history p9.0 in
+    let routes = agreed r.routes c.routes p9.1 in
+    let all_same : with r.signals r.limits r.cells r.rows r.links r.destinations r.moves r.carry r.history r.routes ≡ with c.signals c.limits c.cells c.rows c.links c.destinations c.moves c.carry c.history c.routes =
+    rw (signals, limits, cells, rows, links, destinations, moves, carry, history, routes) refl in
     all_same
 
 -- ---- a header that is taken, name by name
@@ -162,9 +166,11 @@ written fields h =
     let moves_at : ℕ = destinations_at + one_if c.destinations in
     let carry_at : ℕ = moves_at + one_if c.moves in
     let history_at : ℕ = carry_at + one_if c.carry in
-    let width : length fields ≡ history_at + one_if c.history = eqb-true (length fields) (width_of c) p2.1 in
-    let end : drop (history_at + one_if c.history) fields ≡ [] = past_end fields (history_at + one_if c.history) width in
-    let e9 : drop history_at fields ≡ if_there c.history (codes "history") = next fields history_at _ _ ∙ ap (λ (z : Fields). if_there c.history (codes "history") ++ z) end ∙ append_none (if_there c.history (codes "history")) in
+    let routes_at : ℕ = history_at + one_if c.history in
+    let width : length fields ≡ routes_at + one_if c.routes = eqb-true (length fields) (width_of c) p2.1 in
+    let end : drop (routes_at + one_if c.routes) fields ≡ [] = past_end fields (routes_at + one_if c.routes) width in
+    let e10 : drop routes_at fields ≡ if_there c.routes (codes "routes") = next fields routes_at _ _ ∙ ap (λ (z : Fields). if_there c.routes (codes "routes") ++ z) end ∙ append_none (if_there c.routes (codes "routes")) in
+    let e9 = next fields history_at _ _ ∙ ap (λ (z : Fields). if_there c.history (codes "history") ++ z) e10 in
     let e8 = next fields carry_at _ _ ∙ ap (λ (z : Fields). if_there c.carry (codes "carry") ++ z) e9 in
     let e7 = next fields moves_at _ _ ∙ ap (λ (z : Fields). if_there c.moves (codes "moves") ++ z) e8 in
     let e6 = next fields destinations_at _ _ ∙ ap (λ (z : Fields). if_there c.destinations (codes "destinations") ++ z) e7 in
@@ -193,7 +199,8 @@ all_named c =
     named c 3 (codes "signals") c.signals && (named c (limits_field c - 1) (codes "limits") c.limits && (named c (cells_field c - 1) (codes "cells") c.cells
     && (named c (rows_field c - 1) (codes "rows") c.rows && (named c (links_field c - 1) (codes "links") c.links
     && (named c (destinations_field c - 1) (codes "destinations") c.destinations && (named c (moves_field c - 1) (codes "moves") c.moves
-    && (named c (carry_field c - 1) (codes "carry") c.carry && named c (history_field c - 1) (codes "history") c.history)))))))
+    && (named c (carry_field c - 1) (codes "carry") c.carry && (named c (history_field c - 1) (codes "history") c.history
+    && named c (routes_field c - 1) (codes "routes") c.routes))))))))
 
 every_named : all all_named ≡ true
 every_named = refl
@@ -212,7 +219,8 @@ columns_are_at_their_names c =
     let p5 = and_both (named c (links_field c - 1) (codes "links") c.links) _ p4.1 in
     let p6 = and_both (named c (destinations_field c - 1) (codes "destinations") c.destinations) _ p5.1 in
     let p7 = and_both (named c (moves_field c - 1) (codes "moves") c.moves) _ p6.1 in
-    let p8 = and_both (named c (carry_field c - 1) (codes "carry") c.carry) (named c (history_field c - 1) (codes "history") c.history) p7.1 in
+    let p8 = and_both (named c (carry_field c - 1) (codes "carry") c.carry) _ p7.1 in
+    let p9 = and_both (named c (history_field c - 1) (codes "history") c.history) (named c (routes_field c - 1) (codes "routes") c.routes) p8.1 in
     record {
       signals = stands c 3 (codes "signals") c.signals p1.0;
       limits = stands c (limits_field c - 1) (codes "limits") c.limits p2.0;
@@ -222,5 +230,6 @@ columns_are_at_their_names c =
       destinations = stands c (destinations_field c - 1) (codes "destinations") c.destinations p6.0;
       moves = stands c (moves_field c - 1) (codes "moves") c.moves p7.0;
       carry = stands c (carry_field c - 1) (codes "carry") c.carry p8.0;
-      history = stands c (history_field c - 1) (codes "history") c.history p8.1;
+      history = stands c (history_field c - 1) (codes "history") c.history p9.0;
+      routes = stands c (routes_field c - 1) (codes "routes") c.routes p9.1;
     }

@@ -1,5 +1,5 @@
 -- What is said of a case is said of one whose history is to be kept.
-use Rattle.std.proofs.Common.{◌≡◌, ◌⊎◌, Bool, true, false, cond, Result, Ok, Err, refl, sym, ap, ◌∙◌, inl, inr}
+use Rattle.std.proofs.Common.{◌≡◌, true, false, cond, Result, Ok, Err, ap, ◌∙◌}
 use Rattle.ltm_scenario.specs.Data.{ScenarioData}
 use Rattle.ltm_scenario.specs.Build.{◌>>=◌}
 use Rattle.ltm_casefile.specs.declared.faults.CaseFault.{CaseFault}

@@ -45,17 +45,21 @@ use Rattle.ltm_casefile.specs.Causes.{taken}
 use Rattle.ltm_casefile.specs.Rows.{at_row, rows_from, below_header}
 use Rattle.ltm_casefile.specs.Fields.{has_width, name_in, number_in, amount_in, weights_in}
 use Rattle.ltm_casefile.specs.Setup.{number_if, setup_record, flags_checked, rules_checked, in_range, opened, setup_read, only_row, setup_of, asks_for_many, longest_beside}
-use Rattle.ltm_casefile.specs.Columns.{limits_field, cells_field, rows_field, links_field, destinations_field, moves_field, carry_field, history_field, width_of, columns_of, is_setup_header}
+use Rattle.ltm_casefile.specs.Columns.{limits_field, cells_field, rows_field, links_field, destinations_field, moves_field, carry_field, history_field, routes_field, width_of, columns_of, is_setup_header}
 use Rattle.ltm_casefile.specs.Links.{link_record, cause_of_link, link_added}
 use Rattle.ltm_casefile.specs.Links as links
-use Rattle.ltm_casefile.specs.Demand.{demand_record, demand_ends, demand_row, place_of, with_demand_record, demand_added}
+use Rattle.ltm_casefile.specs.Demand.{demand_record, pair_ends, demand_ends, demand_row, place_of, with_demand_record, demand_added}
 use Rattle.ltm_casefile.specs.Splits.{split_record, split_ends, with_split_record, split_added}
 use Rattle.ltm_casefile.specs.SideLimits.{limit_record, with_limit_record, limit_added}
-use Rattle.ltm_casefile.specs.Folder.{sized, doc_of, text_of, text_within, longest_large_file}
+use Rattle.ltm_casefile.specs.Profile.{ProfileData, no_slices, is_profile_header, slice_record, is_next, is_share, slice_added, slices_of, profile_of}
+use Rattle.ltm_casefile.specs.Matrix.{is_matrix_header, is_matrix, matrix_record, whole_row, slices_set, with_matrix_record, matrix_row_added, matrix_added}
+use Rattle.ltm_casefile.specs.Folder.{sized, doc_of, text_of, text_within, text_if, longest_large_file}
 use Rattle.ltm_casefile.specs.declared.setup.Opened.{Opened}
 use Rattle.ltm_casefile.specs.Tables.{table_added, rows_added, row_added, heads, file_of, with_file, with_file_if}
-use Rattle.ltm_casefile.specs.Case.{texts_of, text_if, limit_texts_of, limited, filled, sound, whole, CaseTexts, LimitTexts, CaseParts, parts_of, built, case_of}
-use Rattle.ltm_casefile.specs.Roads.{RoadTexts, road_texts_of, roads_filled, roads_in, unsplit_case_of}
+use Rattle.ltm_casefile.specs.Case.{texts_of, limit_texts_of, limited, filled, sound, whole, CaseTexts, LimitTexts, CaseParts, parts_of, built, case_of}
+use Rattle.ltm_routes.specs.Missing.{with_routes}
+use Rattle.ltm_casefile.specs.Routed.{routed_if}
+use Rattle.ltm_casefile.specs.Roads.{RoadTexts, road_texts_of, with_demand_file, roads_filled, roads_in, unsplit_case_of}
 use Rattle.ltm_casefile.specs.Faults.{Says, IsNoWant, HidesNoMemory}
 
 -- each fault that may be told is one of these
@@ -175,14 +179,18 @@ demand_record_clean fields =
     then_clean (number_in fields 4) _ (looked _ (cause.Field 4) tt) (λ to.
     then_clean (amount_in fields 5) _ (looked _ (cause.Field 5) tt) (λ amount. fine _ _))))))
 
-demand_ends_clean : (s : ScenarioData) (r : DemandRecord) → Clean (demand_ends s r)
-unfolding demand_ends
-demand_ends_clean s r =
-    then_clean (found (find_node s.network r.origin) (cause.Unknown 1)) _ (looked (find_node s.network r.origin) (cause.Unknown 1) tt) (λ origin.
-    then_clean (found (find_node s.network r.destination) (cause.Unknown 2)) _ (looked (find_node s.network r.destination) (cause.Unknown 2) tt) (λ end.
+pair_ends_clean : (s : ScenarioData) (from to : List ℕ) → Clean (pair_ends s from to)
+unfolding pair_ends
+pair_ends_clean s from to =
+    then_clean (found (find_node s.network from) (cause.Unknown 1)) _ (looked (find_node s.network from) (cause.Unknown 1) tt) (λ origin.
+    then_clean (found (find_node s.network to) (cause.Unknown 2)) _ (looked (find_node s.network to) (cause.Unknown 2) tt) (λ end.
     then_clean (refuse (has_no_out_link s origin) cause.NoOrigin) _ (refused (has_no_out_link s origin) cause.NoOrigin tt) (λ _.
-    then_clean (refuse (origin == end) cause.SameEnds) _ (refused (origin == end) cause.SameEnds tt) (λ _.
-    then_clean (refuse (not (are_slots s r.from r.to)) cause.BadSlots) _ (refused (not (are_slots s r.from r.to)) cause.BadSlots tt) (λ _. fine IsNoWant (origin, end))))))
+    then_clean (refuse (origin == end) cause.SameEnds) _ (refused (origin == end) cause.SameEnds tt) (λ _. fine IsNoWant (origin, end)))))
+
+demand_ends_clean : (s : ScenarioData) (r : DemandRecord) → Clean (demand_ends s r)
+demand_ends_clean s r =
+    then_clean (pair_ends s r.origin r.destination) _ (pair_ends_clean s r.origin r.destination) (λ ends.
+    then_clean (refuse (not (are_slots s r.from r.to)) cause.BadSlots) _ (refused (not (are_slots s r.from r.to)) cause.BadSlots tt) (λ _. fine IsNoWant ends))
 
 demand_clean : (s : ScenarioData) (fields : Fields) → Clean (demand_added s fields)
 demand_clean s fields =
@@ -190,6 +198,36 @@ demand_clean s fields =
     then_clean (demand_ends s r) _ (demand_ends_clean s r) (λ ends.
     then_clean (taken (with_destination s ends.1) cause.TooManyDestinations) _ (kept (with_destination s ends.1) cause.TooManyDestinations tt) (λ next.
     kept (with_demand next (demand_row next r ends)) cause.TooManyRows tt)))
+
+-- ---- a profile, and a matrix
+slice_record_clean : (fields : Fields) → Clean (slice_record fields)
+unfolding slice_record
+slice_record_clean fields =
+    then_clean (has_width fields 3) _ (refused _ cause.Width tt) (λ _.
+    then_clean (number_in fields 1) _ (looked _ (cause.Field 1) tt) (λ from.
+    then_clean (number_in fields 2) _ (looked _ (cause.Field 2) tt) (λ to.
+    then_clean (number_in fields 3) _ (looked _ (cause.Field 3) tt) (λ share. fine _ _))))
+
+slice_clean : (slots : ℕ) (p : ProfileData) (fields : Fields) → Clean (slice_added slots p fields)
+slice_clean slots p fields =
+    then_clean (slice_record fields) _ (slice_record_clean fields) (λ r.
+    then_clean (refuse (not (is_next slots p r)) cause.BadSlots) _ (refused (not (is_next slots p r)) cause.BadSlots tt) (λ _.
+    then_clean (refuse (not (is_share r.share)) (cause.Range 3)) _ (refused (not (is_share r.share)) (cause.Range 3) tt) (λ _. fine _ _)))
+
+matrix_record_clean : (fields : Fields) → Clean (matrix_record fields)
+unfolding matrix_record
+matrix_record_clean fields =
+    then_clean (has_width fields 3) _ (refused _ cause.Width tt) (λ _.
+    then_clean (name_in fields 1) _ (looked _ (cause.Field 1) tt) (λ origin.
+    then_clean (name_in fields 2) _ (looked _ (cause.Field 2) tt) (λ destination.
+    then_clean (amount_in fields 3) _ (looked _ (cause.Field 3) tt) (λ amount. fine _ _))))
+
+matrix_clean : (p : ProfileData) (s : ScenarioData) (fields : Fields) → Clean (matrix_row_added p s fields)
+matrix_clean p s fields =
+    then_clean (matrix_record fields) (λ r. with_matrix_record p s r) (matrix_record_clean fields) (λ r.
+    then_clean (pair_ends s r.origin r.destination) _ (pair_ends_clean s r.origin r.destination) (λ ends.
+    then_clean (taken (with_destination s ends.1) cause.TooManyDestinations) _ (kept (with_destination s ends.1) cause.TooManyDestinations tt) (λ next.
+    kept (slices_set p.total (whole_row next r ends) next p.slices) cause.TooManyRows tt)))
 
 -- ---- splits
 split_record_clean : (fields : Fields) → Clean (split_record fields)
@@ -255,7 +293,8 @@ setup_record_clean columns fields =
     then_clean (number_if columns.destinations default_destinations fields (destinations_field columns)) _ (number_clean columns.destinations default_destinations fields (destinations_field columns)) (λ destinations.
     then_clean (number_if columns.moves 0 fields (moves_field columns)) _ (number_clean columns.moves 0 fields (moves_field columns)) (λ moves.
     then_clean (number_if columns.carry 0 fields (carry_field columns)) _ (number_clean columns.carry 0 fields (carry_field columns)) (λ carry.
-    then_clean (number_if columns.history 1 fields (history_field columns)) _ (number_clean columns.history 1 fields (history_field columns)) (λ history. fine _ _))))))))))))))
+    then_clean (number_if columns.history 1 fields (history_field columns)) _ (number_clean columns.history 1 fields (history_field columns)) (λ history.
+    then_clean (number_if columns.routes 0 fields (routes_field columns)) _ (number_clean columns.routes 0 fields (routes_field columns)) (λ routes. fine _ _)))))))))))))))
 
 flags_clean : (columns : Columns) (r : SetupRecord) → Clean (flags_checked columns r)
 flags_clean columns r =
@@ -266,7 +305,8 @@ rules_clean : (columns : Columns) (r : SetupRecord) → Clean (rules_checked col
 rules_clean columns r =
     then_clean (refuse (nat_lt 1 r.moves) (cause.Range (moves_field columns))) _ (refused (nat_lt 1 r.moves) (cause.Range (moves_field columns)) tt) (λ _.
     then_clean (refuse (nat_lt 1 r.carry) (cause.Range (carry_field columns))) _ (refused (nat_lt 1 r.carry) (cause.Range (carry_field columns)) tt) (λ _.
-    refused (nat_lt 1 r.history) (cause.Range (history_field columns)) tt))
+    then_clean (refuse (nat_lt 1 r.history) (cause.Range (history_field columns))) _ (refused (nat_lt 1 r.history) (cause.Range (history_field columns)) tt) (λ _.
+    refused (nat_lt 1 r.routes) (cause.Range (routes_field columns)) tt)))
 
 in_range_clean : (columns : Columns) (r : SetupRecord) (checked : Result (Unit {0}) SetupFault) → Clean (in_range columns r checked)
 in_range_clean columns r (Ok x) = then_clean (flags_checked columns r) _ (flags_clean columns r) (λ _. rules_clean columns r)
@@ -290,7 +330,7 @@ at_hides : {A : Type 0} (f : File) (row : ℕ) (r : Result A CaseCause) → Clea
 at_hides f row (Ok x) is = fine HidesNoMemory x
 at_hides f row (Err c) is = wrong HidesNoMemory _ (is c refl)
 
-rows_hide : (f : File) (step : ScenarioData → Fields → Result ScenarioData CaseCause) → ((s : ScenarioData) (fields : Fields) → Clean (step s fields)) → (row : ℕ) (s : ScenarioData) (rows : List Fields) → Hides (rows_from f step row s rows)
+rows_hide : {S : Type 0} (f : File) (step : S → Fields → Result S CaseCause) → ((s : S) (fields : Fields) → Clean (step s fields)) → (row : ℕ) (s : S) (rows : List Fields) → Hides (rows_from f step row s rows)
 rows_hide f step clean row s [] = fine HidesNoMemory s
 rows_hide f step clean row s (fields ∷ rest) = then_hides (at_row f row (step s fields)) _ (at_hides f row (step s fields) (clean s fields)) (λ next. rows_hide f step clean (row + 1) next rest)
 
@@ -308,6 +348,21 @@ row_clean table.Limits s fields = limit_clean side.Entry s fields
 table_hides : (t : Table) (s : ScenarioData) (rows : List Fields) → Hides (table_added t s rows)
 unfolding table_added
 table_hides t s rows = header_hides (file_of t) (heads t) (λ _. rows_added t 2 s) (λ header rest. rows_hide (file_of t) (row_added t) (row_clean t) 2 s rest) rows
+
+profile_hides : (slots : ℕ) (rows : List Fields) → Hides (profile_of slots rows)
+unfolding profile_of
+profile_hides slots rows = header_hides file.Profile is_profile_header (λ _ rest. slices_of slots rest) (λ header rest.
+    then_hides (rows_from file.Profile (slice_added slots) 2 no_slices rest) _ (rows_hide file.Profile (slice_added slots) (slice_clean slots) 2 no_slices rest) (λ p.
+    then_hides (at_row file.Profile 2 (refuse (p.total == 0) cause.Rows)) _ (at_hides file.Profile 2 (refuse (p.total == 0) cause.Rows) (refused (p.total == 0) cause.Rows tt)) (λ _. fine _ _))) rows
+
+matrix_hides : (p : ProfileData) (s : ScenarioData) (rows : List Fields) → Hides (matrix_added p s rows)
+unfolding matrix_added
+matrix_hides p s rows = header_hides file.Demand is_matrix_header (λ _ rest. rows_from file.Demand (matrix_row_added p) 2 s rest) (λ header rest. rows_hide file.Demand (matrix_row_added p) (matrix_clean p) 2 s rest) rows
+
+demand_hides : (s : ScenarioData) (profile : Option (List ℕ)) (demand : List ℕ) → Hides (with_demand_file s profile demand)
+demand_hides s None demand = table_hides table.Demand s (records_of demand)
+demand_hides s (Some profile) demand =
+    then_hides (profile_of s.setup.slots (records_of profile)) _ (profile_hides s.setup.slots (records_of profile)) (λ p. matrix_hides p s (records_of demand))
 
 only_row_hides : (columns : Columns) (rows : List Fields) → Hides (only_row columns rows)
 only_row_hides columns [] = wrong HidesNoMemory _ tt
@@ -334,22 +389,23 @@ within_hides most files f = sized_hides most f (option_and_then files (doc_of f)
 text_hides : (files : Files) (f : File) → Hides (text_of files f)
 text_hides files f = within_hides longest_file files f
 
+text_if_hides : (asked : Bool) (files : Files) (f : File) → Hides (text_if asked files f)
+text_if_hides true files f = then_hides (text_of files f) _ (text_hides files f) (λ bytes. fine _ _)
+text_if_hides false files f = fine HidesNoMemory None
+
 road_texts_hide : (files : Files) → Hides (road_texts_of files)
 unfolding road_texts_of
 road_texts_hide files =
     then_hides (text_of files file.Setup) _ (text_hides files file.Setup) (λ setup.
     then_hides (text_of files file.Links) _ (text_hides files file.Links) (λ links.
-    then_hides (text_within (longest_beside setup) files file.Demand) _ (within_hides (longest_beside setup) files file.Demand) (λ demand. fine HidesNoMemory (record { setup = setup; links = links; demand = demand }))))
+    then_hides (text_within (longest_beside setup) files file.Demand) _ (within_hides (longest_beside setup) files file.Demand) (λ demand.
+    then_hides (text_if (is_matrix demand) files file.Profile) _ (text_if_hides (is_matrix demand) files file.Profile) (λ profile. fine _ _))))
 
 texts_hide : (files : Files) → Hides (texts_of files)
 unfolding texts_of
 texts_hide files =
     then_hides (road_texts_of files) _ (road_texts_hide files) (λ roads.
     then_hides (text_within (longest_beside roads.setup) files file.Splits) _ (within_hides (longest_beside roads.setup) files file.Splits) (λ splits. fine HidesNoMemory (record { roads = roads; splits = splits })))
-
-text_if_hides : (asked : Bool) (files : Files) (f : File) → Hides (text_if asked files f)
-text_if_hides true files f = then_hides (text_of files f) _ (text_hides files f) (λ bytes. fine _ _)
-text_if_hides false files f = fine HidesNoMemory None
 
 limit_texts_hide : (files : Files) (asked : Asked) → Hides (limit_texts_of files asked)
 unfolding limit_texts_of
@@ -377,14 +433,18 @@ roads_filled_hides : (s : ScenarioData) (texts : RoadTexts) → Hides (roads_fil
 unfolding roads_filled
 roads_filled_hides s texts =
     then_hides (with_file table.Links s texts.links) _ (table_hides table.Links s (records_of texts.links)) (λ linked.
-    table_hides table.Demand linked (records_of texts.demand))
+    demand_hides linked texts.profile texts.demand)
 
-filled_hides : (s : ScenarioData) (texts : CaseTexts) (limits : LimitTexts) → Hides (filled s texts limits)
+routed_hides : (asked : Bool) (s : ScenarioData) → Hides (routed_if asked s)
+routed_hides true s = at_hides file.Whole 0 (taken (with_routes s) cause.TooManyRows) (kept (with_routes s) cause.TooManyRows tt)
+routed_hides false s = fine HidesNoMemory s
+
+filled_hides : (s : ScenarioData) (routes : Bool) (texts : CaseTexts) (limits : LimitTexts) → Hides (filled s routes texts limits)
 unfolding filled
-filled_hides s texts limits =
+filled_hides s routes texts limits =
     then_hides (roads_filled s texts.roads) _ (roads_filled_hides s texts.roads) (λ demanded.
     then_hides (with_file table.Splits demanded texts.splits) _ (table_hides table.Splits demanded (records_of texts.splits)) (λ split.
-    limited_hides split limits))
+    then_hides (routed_if routes split) _ (routed_hides routes split) (λ routed. limited_hides routed limits)))
 
 sound_hides : (s : ScenarioData) (c : Checked) → Hides (sound s c)
 sound_hides s (Ok x) = fine HidesNoMemory s
@@ -392,7 +452,7 @@ sound_hides s (Err (broken.NoSplit node destination)) = wrong HidesNoMemory _ tt
 sound_hides s (Err (broken.CellsOver cells)) = wrong HidesNoMemory _ tt
 
 built_hides : (parts : CaseParts) → Hides (built parts)
-built_hides parts = then_hides (filled parts.scenario parts.texts parts.limits) (λ s. whole s) (filled_hides parts.scenario parts.texts parts.limits) (λ s. sound_hides s (checked s))
+built_hides parts = then_hides (filled parts.scenario parts.routes parts.texts parts.limits) (λ s. whole s) (filled_hides parts.scenario parts.routes parts.texts parts.limits) (λ s. sound_hides s (checked s))
 
 pub case_hides : (files : Files) → IfErr (case_of files) HidesNoMemory
 case_hides files = told HidesNoMemory (case_of files) (then_hides (parts_of files) (λ parts. built parts) (parts_hide files) built_hides)

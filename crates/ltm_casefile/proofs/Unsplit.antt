@@ -1,5 +1,5 @@
 -- Neither links nor demand set a split row.
-use Rattle.std.proofs.Common.{◌≡◌, ℕ, ◌+◌, List, [], ◌∷◌, Bool, Result, Ok, Err, refl, ap, ◌∙◌}
+use Rattle.std.proofs.Common.{◌≡◌, ℕ, ◌+◌, List, [], ◌∷◌, Bool, Option, Some, None, Result, Ok, Err, refl, ap, ◌∙◌}
 use Rattle.ltm_units.specs.Results.{refuse}
 use Rattle.ltm_network.specs.Network as network
 use Rattle.ltm_network.specs.Network.{NetworkData}
@@ -22,9 +22,13 @@ use Rattle.ltm_casefile.specs.Causes.{taken}
 use Rattle.ltm_casefile.specs.Rows.{at_row, rows_from, below_header}
 use Rattle.ltm_casefile.specs.Links.{link_record, with_link_record, link_added}
 use Rattle.ltm_casefile.specs.Links as links
-use Rattle.ltm_casefile.specs.Demand.{demand_record, demand_ends, demand_row, with_demand_record, demand_added}
+use Rattle.ltm_casefile.specs.Demand.{demand_record, pair_ends, demand_ends, demand_row, with_demand_record, demand_added}
+use Rattle.ltm_casefile.specs.declared.profile.Slice.{Slice}
+use Rattle.ltm_casefile.specs.declared.faults.File.TheVariants as file
+use Rattle.ltm_casefile.specs.Profile.{ProfileData, profile_of}
+use Rattle.ltm_casefile.specs.Matrix.{is_matrix_header, matrix_record, slice_row, slices_set, whole_row, with_matrix_record, matrix_row_added, matrix_added}
 use Rattle.ltm_casefile.specs.Tables.{table_added, rows_added, row_added, heads, file_of, with_file}
-use Rattle.ltm_casefile.specs.Roads.{RoadTexts, roads_filled}
+use Rattle.ltm_casefile.specs.Roads.{RoadTexts, with_demand_file, roads_filled}
 
 -- a step that ends well, ends with these split rows
 abbrev Keeps : {F : Type 0} → ScenarioData → Result ScenarioData F → Type 0
@@ -87,13 +91,31 @@ links_keep : (s : ScenarioData) (rows : List Fields) → Keeps s (table_added ta
 unfolding table_added
 links_keep s rows = header_keeps s (file_of table.Links) (heads table.Links) (λ _. rows_added table.Links 2 s) (λ header rest. rows_keep (file_of table.Links) (row_added table.Links) link_keeps 2 s rest) rows
 
+slices_keep : (total : ℕ) (row : DemandRow) (s : ScenarioData) (slices : List Slice) → Keeps s (slices_set total row s slices)
+slices_keep total row s [] = refl
+slices_keep total row s (slice ∷ slices) = keeps_on s (with_demand s (slice_row total row slice)) _ (demand_set_keeps s (slice_row total row slice)) (λ next. slices_keep total row next slices)
+
+matrix_row_keeps : (p : ProfileData) (s : ScenarioData) (fields : Fields) → Keeps s (matrix_row_added p s fields)
+matrix_row_keeps p s fields = then_keeps s (matrix_record fields) (λ r. with_matrix_record p s r) (λ r.
+    then_keeps s (pair_ends s r.origin r.destination) _ (λ ends.
+    keeps_on s (taken (with_destination s ends.1) _) _ (taken_keeps s (with_destination s ends.1) _ (destination_keeps s ends.1)) (λ next.
+    taken_keeps next (slices_set p.total (whole_row next r ends) next p.slices) _ (slices_keep p.total (whole_row next r ends) next p.slices))))
+
+matrix_keeps : (p : ProfileData) (s : ScenarioData) (rows : List Fields) → Keeps s (matrix_added p s rows)
+unfolding matrix_added
+matrix_keeps p s rows = header_keeps s file.Demand is_matrix_header (λ _ rest. rows_from file.Demand (matrix_row_added p) 2 s rest) (λ header rest. rows_keep file.Demand (matrix_row_added p) (matrix_row_keeps p) 2 s rest) rows
+
 demands_keep : (s : ScenarioData) (rows : List Fields) → Keeps s (table_added table.Demand s rows)
 unfolding table_added
 demands_keep s rows = header_keeps s (file_of table.Demand) (heads table.Demand) (λ _. rows_added table.Demand 2 s) (λ header rest. rows_keep (file_of table.Demand) (row_added table.Demand) demand_keeps 2 s rest) rows
 
+demand_file_keeps : (s : ScenarioData) (profile : Option (List ℕ)) (demand : List ℕ) → Keeps s (with_demand_file s profile demand)
+demand_file_keeps s None demand = demands_keep s (records_of demand)
+demand_file_keeps s (Some profile) demand = then_keeps s (profile_of s.setup.slots (records_of profile)) _ (λ p. matrix_keeps p s (records_of demand))
+
 roads_keep : (s : ScenarioData) (texts : RoadTexts) → Keeps s (roads_filled s texts)
 unfolding roads_filled
-roads_keep s texts = keeps_on s (with_file table.Links s texts.links) _ (links_keep s (records_of texts.links)) (λ next. demands_keep next (records_of texts.demand))
+roads_keep s texts = keeps_on s (with_file table.Links s texts.links) _ (links_keep s (records_of texts.links)) (λ next. demand_file_keeps next texts.profile texts.demand)
 
 -- so a scenario without them stays without them
 pub unsplit : (s next : ScenarioData) (texts : RoadTexts) → roads_filled s texts ≡ Ok next → s.splits ≡ [] → next.splits ≡ []

@@ -1,5 +1,5 @@
 -- The scenario that the files of a folder describe, or the first fault.
-use Rattle.std.specs.Prelude.{ℕ, Bool, true, false, ◌||◌, if◌then◌else◌, List, Option, Some, None, Result, Ok, Err}
+use Rattle.std.specs.Prelude.{ℕ, Bool, true, false, ◌||◌, List, Option, Result, Ok, Err}
 use Rattle.ltm_io.specs.declared.doc.Doc.{Doc}
 use Rattle.ltm_io.specs.declared.doc.Doc.TheVariants as doc
 use Rattle.ltm_io.specs.Folder.{Files}
@@ -14,14 +14,14 @@ use Rattle.ltm_casefile.specs.declared.faults.CaseCause.TheVariants.{NoSplit, Ce
 use Rattle.ltm_casefile.specs.declared.faults.CaseFault.{CaseFault}
 use Rattle.ltm_casefile.specs.declared.faults.CaseFault.TheVariants.{Bad}
 use Rattle.ltm_casefile.specs.declared.faults.File.TheVariants as file
-use Rattle.ltm_casefile.specs.declared.faults.File.{File}
 use Rattle.ltm_casefile.specs.declared.setup.Asked.{Asked}
 use Rattle.ltm_casefile.specs.declared.setup.Opened.{Opened}
 use Rattle.ltm_casefile.specs.declared.tables.Table.TheVariants as table
 use Rattle.ltm_casefile.specs.Setup.{setup_of, longest_beside}
-use Rattle.ltm_casefile.specs.Folder.{text_of, text_within}
+use Rattle.ltm_casefile.specs.Folder.{text_within, text_if}
+use Rattle.ltm_casefile.specs.Routed.{routed_if}
 use Rattle.ltm_casefile.specs.Tables.{with_file, with_file_if}
-use Rattle.ltm_casefile.specs.Roads.{RoadTexts, road_texts_of, roads_filled, is_of_roads}
+use Rattle.ltm_casefile.specs.Roads.{RoadTexts, road_texts_of, roads_filled, is_of_roads, roads_ask}
 
 -- the bytes of the files that each case has
 pub record CaseTexts : Type 0 where
@@ -39,9 +39,6 @@ pub record LimitTexts : Type 0 where
   pub signals : Option (List ℕ)
   pub limits : Option (List ℕ)
 
-abbrev pub text_if : Bool → Files → File → Result (Option (List ℕ)) CaseFault
-text_if asked files f = if asked then (text_of files f >>= λ bytes. Ok (Some bytes)) else Ok None
-
 unfoldable pub limit_texts_of : Files → Asked → Result LimitTexts CaseFault
 limit_texts_of files asked =
     text_if asked.signals files file.Signals >>= λ signals.
@@ -52,12 +49,14 @@ limit_texts_of files asked =
 abbrev pub limited : ScenarioData → LimitTexts → Result ScenarioData CaseFault
 limited s texts = with_file_if table.Signals s texts.signals >>= λ signalled. with_file_if table.Limits signalled texts.limits
 
--- the scenario with what the files say, in their order
-unfoldable pub filled : ScenarioData → CaseTexts → LimitTexts → Result ScenarioData CaseFault
-filled s texts limits =
+-- the scenario with what the files say, in their order, and behind the splits with the routes of nodes that have none, where
+-- the setup asks for them
+unfoldable pub filled : ScenarioData → Bool → CaseTexts → LimitTexts → Result ScenarioData CaseFault
+filled s routes texts limits =
     roads_filled s texts.roads >>= λ demanded.
     with_file table.Splits demanded texts.splits >>= λ split.
-    limited split limits
+    routed_if routes split >>= λ routed.
+    limited routed limits
 
 abbrev pub cause_of_whole : ScenarioFault → CaseCause
 cause_of_whole (broken.NoSplit node destination) = NoSplit node destination
@@ -72,9 +71,10 @@ abbrev pub whole : ScenarioData → Result ScenarioData CaseFault
 whole s = sound s (checked s)
 
 -- ---- what comes from the folder, and what is made of it
--- a scenario without links, and the files that fill it
+-- a scenario without links, whether nodes take their routes, and the files that fill it
 pub record CaseParts : Type 0 where
   pub scenario : ScenarioData
+  pub routes : Bool
   pub texts : CaseTexts
   pub limits : LimitTexts
 
@@ -88,23 +88,27 @@ parts_of files =
     texts_of files >>= λ texts.
     setup_of (records_of texts.roads.setup) >>= λ opened.
     limit_texts_of files opened.asked >>= λ limits.
-    Ok (record { scenario = opened.scenario; texts = texts; limits = limits })
+    Ok (record { scenario = opened.scenario; routes = opened.asked.routes; texts = texts; limits = limits })
 
 -- the files fill the scenario, and then it is whole
 abbrev pub built : CaseParts → Result ScenarioData CaseFault
-built parts = filled parts.scenario parts.texts parts.limits >>= λ s. whole s
+built parts = filled parts.scenario parts.routes parts.texts parts.limits >>= λ s. whole s
 
 abbrev pub case_of : Files → Result ScenarioData CaseFault
 case_of files = parts_of files >>= λ parts. built parts
 
 -- ---- which files a case has
--- the files that each case has: those of the roads, and the splits
+-- the files that each case may have: those of the roads, and the splits
 abbrev pub is_splits : Doc → Bool
 is_splits doc.Splits = true
 is_splits other = false
 
 abbrev pub is_of_each : Doc → Bool
 is_of_each d = is_of_roads d || is_splits d
+
+-- of these, the ones that are asked for
+abbrev pub each_asks : Files → Doc → Bool
+each_asks files d = roads_ask files d || is_splits d
 
 -- those of signals and limits that are asked for
 abbrev pub is_asked : Asked → Doc → Bool
@@ -114,12 +118,12 @@ is_asked asked other = false
 
 -- the files that a case may have
 abbrev pub is_case_file : Doc → Bool
-is_case_file d = is_of_each d || is_asked (record { signals = true; limits = true }) d
+is_case_file d = is_of_each d || is_asked (record { signals = true; limits = true; routes = true }) d
 
 abbrev pub asked_by : Result Opened CaseFault → Asked
 asked_by (Ok opened) = opened.asked
-asked_by (Err fault) = record { signals = false; limits = false }
+asked_by (Err fault) = record { signals = false; limits = false; routes = false }
 
--- the files that a case has: signals and limits where its setup asks for them
+-- the files that a case has: signals and limits where its setup asks for them, and a profile where its demand is a matrix
 abbrev pub asks_for : Files → Doc → Bool
-asks_for files d = is_of_each d || is_asked (asked_by (opened_of files)) d
+asks_for files d = each_asks files d || is_asked (asked_by (opened_of files)) d

@@ -1,5 +1,5 @@
 -- The header of a setup: three columns, and then any of signals, limits, cells, rows, links, destinations,
--- moves, carry and history, in this order.
+-- moves, carry, history and routes, in this order.
 use Rattle.std.specs.Prelude.{ℕ, ◌+◌, ◌==◌, ◌&&◌, codes, Bool, if◌then◌else◌, length}
 use Rattle.ltm_records.specs.Fields.{Fields, has}
 use Rattle.ltm_casefile.specs.declared.columns.Columns.{Columns}
@@ -33,11 +33,14 @@ carry_field c = moves_field c + one_if c.moves
 abbrev pub history_field : Columns → ℕ
 history_field c = carry_field c + one_if c.carry
 
+abbrev pub routes_field : Columns → ℕ
+routes_field c = history_field c + one_if c.history
+
 -- how many fields a record has
 abbrev pub width_of : Columns → ℕ
-width_of c = 3 + one_if c.signals + one_if c.limits + one_if c.cells + one_if c.rows + one_if c.links + one_if c.destinations + one_if c.moves + one_if c.carry + one_if c.history
+width_of c = 3 + one_if c.signals + one_if c.limits + one_if c.cells + one_if c.rows + one_if c.links + one_if c.destinations + one_if c.moves + one_if c.carry + one_if c.history + one_if c.routes
 
--- which of the nine a header has
+-- which of the ten a header has
 unfoldable pub columns_of : Fields → Columns
 columns_of fields =
     let signals = has fields 3 (codes "signals") in
@@ -55,7 +58,9 @@ columns_of fields =
     let moves = has fields moves_at (codes "moves") in
     let carry_at = moves_at + one_if moves in
     let carry = has fields carry_at (codes "carry") in
-    let history = has fields (carry_at + one_if carry) (codes "history") in
+    let history_at = carry_at + one_if carry in
+    let history = has fields history_at (codes "history") in
+    let routes = has fields (history_at + one_if history) (codes "routes") in
     record {
       signals = signals;
       limits = limits;
@@ -66,6 +71,7 @@ columns_of fields =
       moves = moves;
       carry = carry;
       history = history;
+      routes = routes;
     }
 
 -- a header has no other column

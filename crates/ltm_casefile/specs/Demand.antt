@@ -1,5 +1,5 @@
 -- What a record of demand makes of a scenario.
-use Rattle.std.specs.Prelude.{ℕ, ◌==◌, not, Result, Ok, unwrap_or, Bool, length, codes, ◌&&◌}
+use Rattle.std.specs.Prelude.{ℕ, List, ◌==◌, not, Result, Ok, unwrap_or, Bool, length, codes, ◌&&◌}
 use Rattle.ltm_units.specs.Results.{refuse, found}
 use Rattle.ltm_network.specs.Network.{find_node}
 use Rattle.ltm_demand.specs.declared.row.DemandRow.{DemandRow}
@@ -28,15 +28,21 @@ demand_record fields =
     amount_in fields 5 >>= λ amount.
     Ok (record { origin = origin; destination = destination; from = from; to = to; amount = amount })
 
--- the origin and the destination by number
-unfoldable pub demand_ends : ScenarioData → DemandRecord → Result (ℕ × ℕ) CaseCause
-demand_ends s r =
-    found (find_node s.network r.origin) (Unknown 1) >>= λ origin.
-    found (find_node s.network r.destination) (Unknown 2) >>= λ end.
+-- an origin and a destination by number
+unfoldable pub pair_ends : ScenarioData → List ℕ → List ℕ → Result (ℕ × ℕ) CaseCause
+pair_ends s from to =
+    found (find_node s.network from) (Unknown 1) >>= λ origin.
+    found (find_node s.network to) (Unknown 2) >>= λ end.
     refuse (has_no_out_link s origin) NoOrigin >>= λ _.
     refuse (origin == end) SameEnds >>= λ _.
-    refuse (not (are_slots s r.from r.to)) BadSlots >>= λ _.
     Ok (origin, end)
+
+-- those of a record, whose slots are within the horizon
+abbrev pub demand_ends : ScenarioData → DemandRecord → Result (ℕ × ℕ) CaseCause
+demand_ends s r =
+    pair_ends s r.origin r.destination >>= λ ends.
+    refuse (not (are_slots s r.from r.to)) BadSlots >>= λ _.
+    Ok ends
 
 -- the place of a node that is a destination
 abbrev pub place_of : ScenarioData → ℕ → ℕ

@@ -8,7 +8,10 @@ pub mod Folder
 pub mod Headers
 pub mod KeptCase
 pub mod Links
+pub mod Matrix
+pub mod Profile
 pub mod Roads
+pub mod Routed
 pub mod Rows
 pub mod Setup
 pub mod SideLimits

@@ -8,10 +8,11 @@ ghost use Rattle.ltm_casefile.specs.Case.{case_of, built, filled, limited, whole
 ghost use Rattle.ltm_casefile.specs.Faults.{Agrees, Says, HasRisen, WasAsked, HidesNoMemory};
 
 use crate::faults::{CaseCause, CaseFault, File};
-use crate::fetch::{LimitTexts, Texts};
 use crate::fetch_case::{Parts, fetch_parts};
 use crate::roads::fill_roads;
+use crate::routed::route_if;
 use crate::tables::Table;
+use crate::texts::{LimitTexts, Texts};
 use ltm_io::Folder;
 use ltm_scenario::{Scenario, ScenarioFault};
 use std::alloc::Global;
@@ -27,23 +28,30 @@ fn add_limits(alloc: Global, scenario: &mut Scenario, texts: &LimitTexts) -> Res
     Table::Limits.add_if(alloc, scenario, &texts.limits)
 }
 
-/// Adds what the files say to a scenario without split rows: links, demand, splits, signals, entry limits.
+/// Adds what the files say to a scenario without split rows: links, demand, splits, then routes where they are asked for,
+/// signals, entry limits.
 #[tactic(auto, unfolding(crate::specs::Case::filled))]
 fn fill(
     alloc: Global,
     scenario: &mut Scenario,
+    routes: bool,
     texts: &Texts,
     limits: &LimitTexts,
 ) -> Result<(), CaseFault>
     requires { scenario.old.splits ≡ [] }
-    ensures ok { OnOk result (filled scenario.old texts.now limits.now ≡ Ok scenario.new) }
-    ensures fault { IfErr result (Says (filled scenario.old texts.now limits.now)) }
+    ensures ok { OnOk result (filled scenario.old routes texts.now limits.now
+        ≡ Ok scenario.new) }
+    ensures fault { IfErr result (Says (filled scenario.old routes texts.now limits.now)) }
 {
     match fill_roads(alloc, scenario, &texts.roads) {
         Ok(()) => {}
         Err(fault) => return Err(fault),
     }
     match Table::Splits.add_to(alloc, scenario, &texts.splits) {
+        Ok(()) => {}
+        Err(fault) => return Err(fault),
+    }
+    match route_if(alloc, scenario, routes) {
         Ok(()) => {}
         Err(fault) => return Err(fault),
     }
@@ -84,18 +92,19 @@ fn build(alloc: Global, parts: Parts) -> Result<Scenario, CaseFault>
 {
     let Parts {
         mut scenario,
+        routes,
         texts,
         limits,
     } = parts;
-    fill(alloc, &mut scenario, &texts, &limits)?;
+    fill(alloc, &mut scenario, routes, &texts, &limits)?;
     check_case(&scenario)?;
     Ok(scenario)
 }
 
 /// The valid scenario that the files of a folder describe, or the first fault: first a file that is missing, cannot be
-/// read or is too long, in the order setup, links, demand, splits; then what the setup says; then the file of signals and
-/// that of entry limits, each where the setup asks for it, likewise; then what links, demand, splits, signals and entry
-/// limits say; then the whole case.
+/// read or is too long, in the order setup, links, demand, profile, splits, the profile where the demand is a matrix; then what
+/// the setup says; then the file of signals and that of entry limits, each where the setup asks for it, likewise; then what links,
+/// profile, demand, splits, signals and entry limits say; then the whole case.
 ///
 /// Each file is fetched once, and its records are read up to its first fault.
 #[tactic(auto, using(crate::proofs::Memory::built_said))]

@@ -1,7 +1,7 @@
 //! The header of a setup.
 ghost use Rattle.std.specs.Prelude.{◌≡◌, ◌≤◌};
 ghost use Rattle.csv.specs.Records.{fields_of};
-ghost use Rattle.ltm_casefile.specs.Columns.{one_if, limits_field, cells_field, rows_field, links_field, destinations_field, moves_field, carry_field, history_field, width_of, columns_of, is_setup_header};
+ghost use Rattle.ltm_casefile.specs.Columns.{one_if, limits_field, cells_field, rows_field, links_field, destinations_field, moves_field, carry_field, history_field, routes_field, width_of, columns_of, is_setup_header};
 
 use csv::ByteRecord;
 use ltm_records::{has, width};
@@ -27,6 +27,8 @@ pub struct Columns {
     pub carry: bool,
     /// Whether the history of a loading is kept.
     pub history: bool,
+    /// Whether nodes without a split row take their routes.
+    pub routes: bool,
 }
 
 fn one_if(there: bool) -> u32
@@ -59,6 +61,8 @@ impl Columns {
         let carry = has(header, carry_at, b"carry");
         let history_at = carry_at + one_if(carry) as usize;
         let history = has(header, history_at, b"history");
+        let routes_at = history_at + one_if(history) as usize;
+        let routes = has(header, routes_at, b"routes");
         Columns {
             signals,
             limits,
@@ -69,6 +73,7 @@ impl Columns {
             moves,
             carry,
             history,
+            routes,
         }
     }
 
@@ -78,7 +83,7 @@ impl Columns {
     {
         let sizes = one_if(self.cells) + one_if(self.rows) + one_if(self.links);
         let rules = one_if(self.moves) + one_if(self.carry) + one_if(self.history);
-        let others = one_if(self.destinations) + rules;
+        let others = one_if(self.destinations) + rules + one_if(self.routes);
         (3 + one_if(self.signals) + one_if(self.limits) + sizes + others) as usize
     }
 
@@ -140,14 +145,22 @@ impl Columns {
 
     /// Where the field of the history stands.
     pub fn history_field(self) -> u32
-        ensures { result ≡ history_field self }
+        ensures field { result ≡ history_field self }
+        ensures small { result ≤ 12 }
     {
         self.carry_field() + one_if(self.carry)
+    }
+
+    /// Where the field of the routes stands.
+    pub fn routes_field(self) -> u32
+        ensures { result ≡ routes_field self }
+    {
+        self.history_field() + one_if(self.history)
     }
 }
 
 /// Whether the record is `step_ms,slots,origin_capacity`, then any of `signals`, `limits`, `cells`, `rows`, `links`,
-/// `destinations`, `moves`, `carry` and `history` in this order.
+/// `destinations`, `moves`, `carry`, `history` and `routes` in this order.
 pub fn is_setup_header(row: &ByteRecord) -> bool
     ensures { result ≡ is_setup_header (fields_of row.now) }
 {

@@ -1,10 +1,10 @@
 //! Records of demand.
-ghost use Rattle.std.specs.Prelude.{◌≡◌, ◌<◌, ◌≤◌, ◌==◌, length, false, Some, Ok, OnOk, IfOk, IfErr};
+ghost use Rattle.std.specs.Prelude.{◌≡◌, ◌<◌, ◌≤◌, ◌==◌, length, true, false, Some, Ok, OnOk, IfOk, IfErr};
 ghost use Rattle.ltm_scenario.specs.Reads.{has_no_out_link, destination_of, destination_node};
-ghost use Rattle.ltm_scenario.specs.Build.{with_destination};
+ghost use Rattle.ltm_scenario.specs.Build.{with_destination, are_slots};
 ghost use Rattle.ltm_casefile.specs.Causes.{taken, Tells};
 ghost use Rattle.csv.specs.Records.{fields_of};
-ghost use Rattle.ltm_casefile.specs.Demand.{is_demand_header, demand_record, demand_ends, place_of, with_demand_record, demand_added};
+ghost use Rattle.ltm_casefile.specs.Demand.{is_demand_header, demand_record, pair_ends, demand_ends, place_of, with_demand_record, demand_added};
 ghost use Rattle.ltm_casefile.specs.declared.faults.CaseCause.TheVariants.{TooManyDestinations};
 ghost use Rattle.ltm_units.specs.Bounds.{most_amount};
 
@@ -64,21 +64,22 @@ fn read_demand(row: &ByteRecord) -> Result<DemandRecord, CaseCause>
     })
 }
 
-/// The origin and the destination, both nodes.
-#[tactic(auto, unfolding(crate::specs::Demand::demand_ends))]
-fn find_ends(scenario: &Scenario, row: &DemandRecord) -> Result<(NodeId, NodeId), CaseCause>
-    ensures ok { IfOk result (λ ends. demand_ends scenario.now row.now ≡ Ok (ends.0.0, ends.1.0)) }
-    ensures cause { IfErr result (λ e. demand_ends scenario.now row.now ≡ Err e) }
+/// An origin and a destination, both nodes.
+#[tactic(auto, unfolding(crate::specs::Demand::pair_ends))]
+pub fn find_pair(scenario: &Scenario, from: &Name, to: &Name) -> Result<(NodeId, NodeId), CaseCause>
+    ensures ok { IfOk result (λ ends. pair_ends scenario.now from.now to.now
+        ≡ Ok (ends.0.0, ends.1.0)) }
+    ensures cause { IfErr result (λ e. pair_ends scenario.now from.now to.now ≡ Err e) }
     ensures origin { IfOk result (λ ends. ends.0.0 < length scenario.now.network.nodes) }
     ensures out { IfOk result (λ ends. has_no_out_link scenario.now ends.0.0 ≡ false) }
     ensures destination { IfOk result (λ ends. ends.1.0 < length scenario.now.network.nodes) }
     ensures apart { IfOk result (λ ends. (ends.0.0 == ends.1.0) ≡ false) }
 {
     let network = scenario.network();
-    let Some(origin) = network.find_node(&row.origin) else {
+    let Some(origin) = network.find_node(from) else {
         return Err(CaseCause::Unknown(1));
     };
-    let Some(end) = network.find_node(&row.destination) else {
+    let Some(end) = network.find_node(to) else {
         return Err(CaseCause::Unknown(2));
     };
     if scenario.has_no_out_link(origin) {
@@ -87,10 +88,24 @@ fn find_ends(scenario: &Scenario, row: &DemandRecord) -> Result<(NodeId, NodeId)
     if origin.0 == end.0 {
         return Err(CaseCause::SameEnds);
     }
+    Ok((origin, end))
+}
+
+/// Those of a record, whose slots are within the horizon.
+fn find_ends(scenario: &Scenario, row: &DemandRecord) -> Result<(NodeId, NodeId), CaseCause>
+    ensures ok { IfOk result (λ ends. demand_ends scenario.now row.now ≡ Ok (ends.0.0, ends.1.0)) }
+    ensures cause { IfErr result (λ e. demand_ends scenario.now row.now ≡ Err e) }
+    ensures origin { IfOk result (λ ends. ends.0.0 < length scenario.now.network.nodes) }
+    ensures out { IfOk result (λ ends. has_no_out_link scenario.now ends.0.0 ≡ false) }
+    ensures destination { IfOk result (λ ends. ends.1.0 < length scenario.now.network.nodes) }
+    ensures apart { IfOk result (λ ends. (ends.0.0 == ends.1.0) ≡ false) }
+    ensures slots { OnOk result (are_slots scenario.now row.now.from row.now.to ≡ true) }
+{
+    let ends = find_pair(scenario, &row.origin, &row.destination)?;
     if !scenario.are_slots(row.from, row.to) {
         return Err(CaseCause::BadSlots);
     }
-    Ok((origin, end))
+    Ok(ends)
 }
 
 /// The place of the node among the destinations, a new last one where it had none.

@@ -15,6 +15,8 @@ pub enum File {
     Splits,
     Signals,
     Limits,
+    /// The slices over which a matrix of demand is split.
+    Profile,
     /// What no file says alone.
     Whole,
 }
@@ -24,13 +26,13 @@ pub enum File {
 pub enum CaseCause {
     /// The first record is missing, or does not name the fields of the file.
     Header,
-    /// The setup has no second record, or has a third.
+    /// The setup has no second record, or has a third; or the profile has no second.
     Rows,
     /// The record has not as many fields as the header.
     Width,
     /// The field is not of its kind.
     Field(u32),
-    /// The field of the setup is out of its limits.
+    /// The field of the setup, or of the profile, is out of its limits.
     Range(u32),
     /// The network takes no such link. No call of this crate tells `NetworkFault::NoMemory`: `memory_is_never_a_bad_case`.
     Network(NetworkFault),
@@ -42,7 +44,7 @@ pub enum CaseCause {
     NoOrigin,
     /// The origin, or the node of a split row, is the destination.
     SameEnds,
-    /// The slots are none, or go past the horizon.
+    /// The slots are none, or go past the horizon, or those of a profile begin before the slice above them ends.
     BadSlots,
     /// All weights are 0.
     ZeroWeight,

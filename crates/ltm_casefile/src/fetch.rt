@@ -2,17 +2,18 @@
 ghost use Rattle.std.specs.Prelude.{◌≡◌, ◌≤◌, ℕ, length, Ok, Err, IfOk, IfErr, IfSome, IsSome, Some, None, true, false};
 ghost use Rattle.ltm_io.specs.declared.doc.Doc.{Doc};
 ghost use Rattle.ltm_casefile.specs.declared.faults.File.{File};
-ghost use Rattle.ltm_casefile.specs.Folder.{doc_of, longest_large_file, text_of, text_within};
-ghost use Rattle.ltm_casefile.specs.Case.{texts_of, text_if, limit_texts_of, is_of_each, is_asked};
-ghost use Rattle.ltm_casefile.specs.Roads.{road_texts_of, is_of_roads};
+ghost use Rattle.ltm_casefile.specs.Folder.{doc_of, longest_large_file, text_of, text_within, text_if};
+ghost use Rattle.ltm_casefile.specs.Case.{texts_of, limit_texts_of, is_of_each, each_asks, is_asked};
+ghost use Rattle.ltm_casefile.specs.Roads.{road_texts_of, is_of_roads, roads_ask};
 ghost use Rattle.ltm_casefile.specs.Faults.{Agrees, HasRisen, WasAsked, HidesNoMemory};
 ghost use Rattle.ltm_units.specs.Bounds.{longest_file};
 
 use crate::faults::{CaseFault, File};
+use crate::matrix::has_matrix;
 use crate::setup::{Asked, longest_beside};
+use crate::texts::{FileText, LimitTexts, RoadTexts, Texts};
 use ltm_io::{Doc, Fetched, Folder};
 use std::alloc::Global;
-use std::marker::Model;
 
 /// The most bytes that a file of a case may have, but for demand and splits of one that asks for many rows.
 pub const LONGEST_FILE: u64 = 16_777_216;
@@ -32,125 +33,10 @@ impl File {
             File::Splits => Some(Doc::Splits),
             File::Signals => Some(Doc::Signals),
             File::Limits => Some(Doc::Limits),
+            File::Profile => Some(Doc::Profile),
             File::Whole => None,
         }
     }
-}
-
-/// The bytes of a file of a case, at most 268,435,456 of them.
-#[derive(Drop)]
-pub struct FileText {
-    bytes: Vec<u8>,
-}
-
-impl Model for FileText {
-    ghost use Rattle.std.specs.Prelude.{◌≤◌, ℕ, List, length};
-    ghost use Rattle.ltm_casefile.specs.Folder.{longest_large_file};
-
-    ghost Value = { List ℕ };
-
-    ghost view = { λ t. t.bytes.items };
-
-    ghost invariant = { λ t. length t.bytes.items ≤ longest_large_file };
-}
-
-impl FileText {
-    pub fn bytes(&self) -> &[u8]
-        ensures bytes { result.now ≡ self.now }
-        ensures short { length self.now ≤ longest_large_file }
-    {
-        &self.bytes
-    }
-}
-
-/// The bytes of the files that say the roads and who travels on them.
-pub struct RoadTexts {
-    pub setup: FileText,
-    pub links: FileText,
-    pub demand: FileText,
-}
-
-// By hand, so that letting go of texts is one call, and not their parts one by one wherever that may happen.
-impl Drop for RoadTexts {
-    fn drop(self) {
-        let RoadTexts {
-            setup: _setup,
-            links: _links,
-            demand: _demand,
-        } = self;
-    }
-}
-
-impl Model for RoadTexts {
-    ghost use Rattle.ltm_casefile.specs.Roads.{RoadTexts as RoadTextsData};
-
-    ghost Value = { RoadTextsData };
-
-    ghost view = { λ t. record { setup = t.setup; links = t.links; demand = t.demand } };
-}
-
-impl RoadTexts {
-    pub fn setup(&self) -> &[u8]
-        ensures { result.now ≡ self.now.setup }
-    {
-        self.setup.bytes()
-    }
-}
-
-/// The bytes of the files that each case has.
-pub struct Texts {
-    pub roads: RoadTexts,
-    pub splits: FileText,
-}
-
-// By hand, as above.
-impl Drop for Texts {
-    fn drop(self) {
-        let Texts {
-            roads: _roads,
-            splits: _splits,
-        } = self;
-    }
-}
-
-impl Model for Texts {
-    ghost use Rattle.ltm_casefile.specs.Case.{CaseTexts};
-
-    ghost Value = { CaseTexts };
-
-    ghost view = { λ t. record { roads = t.roads; splits = t.splits } };
-}
-
-impl Texts {
-    pub fn setup(&self) -> &[u8]
-        ensures { result.now ≡ self.now.roads.setup }
-    {
-        self.roads.setup()
-    }
-}
-
-/// The bytes of the signals and of the entry limits, each where the setup asks for them.
-pub struct LimitTexts {
-    pub signals: Option<FileText>,
-    pub limits: Option<FileText>,
-}
-
-// By hand, as above.
-impl Drop for LimitTexts {
-    fn drop(self) {
-        let LimitTexts {
-            signals: _signals,
-            limits: _limits,
-        } = self;
-    }
-}
-
-impl Model for LimitTexts {
-    ghost use Rattle.ltm_casefile.specs.Case.{LimitTexts as LimitTextsData};
-
-    ghost Value = { LimitTextsData };
-
-    ghost view = { λ t. record { signals = t.signals; limits = t.limits } };
 }
 
 /// The bytes of one file of the folder, at most so many of them.
@@ -179,57 +65,11 @@ fn fetch<F: Folder>(
     };
     let mut bytes = Vec::new(alloc);
     match folder.fetch(doc, &mut bytes, most) {
-        Fetched::Found => Ok(FileText { bytes }),
+        Fetched::Found => Ok(FileText::of(bytes)),
         Fetched::TooLong => Err(CaseFault::TooLong(file)),
         Fetched::Failed => Err(CaseFault::Folder(file)),
         Fetched::NoMemory => Err(CaseFault::NoMemory),
     }
-}
-
-/// The bytes of the files that say the roads, fetched in order.
-#[tactic(auto, unfolding(crate::specs::Roads::road_texts_of))]
-pub fn fetch_road_texts<F: Folder>(alloc: Global, folder: &mut F) -> Result<RoadTexts, CaseFault>
-    ensures keeps { F.told folder.new ≡ F.told folder.old }
-    ensures later { (d : Doc) → F.faults folder.old d ≤ F.faults folder.new d }
-    ensures others { (d : Doc) → is_of_roads d ≡ false
-        → F.faults folder.new d ≡ F.faults folder.old d }
-    ensures ok { IfOk result (λ t. IfSome (F.told folder.old) (λ files. road_texts_of files
-        ≡ Ok t)) }
-    ensures fault { IfErr result (λ e. IfSome (F.told folder.old)
-        (λ files. Agrees (road_texts_of files) e)) }
-    ensures risen { IfErr result (HasRisen (F.faults folder.old) (F.faults folder.new)) }
-    ensures asked { IfErr result (WasAsked is_of_roads) }
-    ensures memory { IfErr result HidesNoMemory }
-{
-    let setup = fetch(alloc, folder, File::Setup, LONGEST_FILE)?;
-    let links = fetch(alloc, folder, File::Links, LONGEST_FILE)?;
-    let most = longest_beside(alloc, setup.bytes())?;
-    let demand = fetch(alloc, folder, File::Demand, most)?;
-    Ok(RoadTexts {
-        setup,
-        links,
-        demand,
-    })
-}
-
-/// The bytes of the files that each case has, fetched in order.
-#[tactic(auto, unfolding(crate::specs::Case::texts_of))]
-pub fn fetch_texts<F: Folder>(alloc: Global, folder: &mut F) -> Result<Texts, CaseFault>
-    ensures keeps { F.told folder.new ≡ F.told folder.old }
-    ensures later { (d : Doc) → F.faults folder.old d ≤ F.faults folder.new d }
-    ensures others { (d : Doc) → is_of_each d ≡ false
-        → F.faults folder.new d ≡ F.faults folder.old d }
-    ensures ok { IfOk result (λ t. IfSome (F.told folder.old) (λ files. texts_of files ≡ Ok t)) }
-    ensures fault { IfErr result (λ e. IfSome (F.told folder.old)
-        (λ files. Agrees (texts_of files) e)) }
-    ensures risen { IfErr result (HasRisen (F.faults folder.old) (F.faults folder.new)) }
-    ensures asked { IfErr result (WasAsked is_of_each) }
-    ensures memory { IfErr result HidesNoMemory }
-{
-    let roads = fetch_road_texts(alloc, folder)?;
-    let most = longest_beside(alloc, roads.setup())?;
-    let splits = fetch(alloc, folder, File::Splits, most)?;
-    Ok(Texts { roads, splits })
 }
 
 /// The bytes of a file, fetched where it is asked for.
@@ -257,6 +97,62 @@ fn fetch_if<F: Folder>(
     }
     let text = fetch(alloc, folder, file, LONGEST_FILE)?;
     Ok(Some(text))
+}
+
+/// The bytes of the files that say the roads, fetched in order; last the profile, where the demand is a matrix.
+#[tactic(auto, unfolding(crate::specs::Roads::road_texts_of))]
+pub fn fetch_road_texts<F: Folder>(alloc: Global, folder: &mut F) -> Result<RoadTexts, CaseFault>
+    ensures keeps { F.told folder.new ≡ F.told folder.old }
+    ensures later { (d : Doc) → F.faults folder.old d ≤ F.faults folder.new d }
+    ensures others { (d : Doc) → is_of_roads d ≡ false
+        → F.faults folder.new d ≡ F.faults folder.old d }
+    ensures ok { IfOk result (λ t. IfSome (F.told folder.old) (λ files. road_texts_of files
+        ≡ Ok t)) }
+    ensures fault { IfErr result (λ e. IfSome (F.told folder.old)
+        (λ files. Agrees (road_texts_of files) e)) }
+    ensures risen { IfErr result (HasRisen (F.faults folder.old) (F.faults folder.new)) }
+    ensures asked { IfErr result (WasAsked is_of_roads) }
+    ensures needed { IfErr result (λ e. IfSome (F.told folder.old)
+        (λ files. WasAsked (roads_ask files) e)) }
+    ensures unasked { IfSome (F.told folder.old) (λ files.
+        (d : Doc) → roads_ask files d ≡ false → F.faults folder.new d ≡ F.faults folder.old d) }
+    ensures memory { IfErr result HidesNoMemory }
+{
+    let setup = fetch(alloc, folder, File::Setup, LONGEST_FILE)?;
+    let links = fetch(alloc, folder, File::Links, LONGEST_FILE)?;
+    let most = longest_beside(alloc, setup.bytes())?;
+    let demand = fetch(alloc, folder, File::Demand, most)?;
+    let asked = has_matrix(alloc, demand.bytes())?;
+    let profile = fetch_if(alloc, folder, asked, File::Profile)?;
+    Ok(RoadTexts {
+        setup,
+        links,
+        demand,
+        profile,
+    })
+}
+
+/// The bytes of the files that each case has, fetched in order.
+#[tactic(auto, unfolding(crate::specs::Case::texts_of))]
+pub fn fetch_texts<F: Folder>(alloc: Global, folder: &mut F) -> Result<Texts, CaseFault>
+    ensures keeps { F.told folder.new ≡ F.told folder.old }
+    ensures later { (d : Doc) → F.faults folder.old d ≤ F.faults folder.new d }
+    ensures others { (d : Doc) → is_of_each d ≡ false
+        → F.faults folder.new d ≡ F.faults folder.old d }
+    ensures ok { IfOk result (λ t. IfSome (F.told folder.old) (λ files. texts_of files ≡ Ok t)) }
+    ensures fault { IfErr result (λ e. IfSome (F.told folder.old)
+        (λ files. Agrees (texts_of files) e)) }
+    ensures risen { IfErr result (HasRisen (F.faults folder.old) (F.faults folder.new)) }
+    ensures asked { IfErr result (λ e. IfSome (F.told folder.old)
+        (λ files. WasAsked (each_asks files) e)) }
+    ensures unasked { IfSome (F.told folder.old) (λ files.
+        (d : Doc) → each_asks files d ≡ false → F.faults folder.new d ≡ F.faults folder.old d) }
+    ensures memory { IfErr result HidesNoMemory }
+{
+    let roads = fetch_road_texts(alloc, folder)?;
+    let most = longest_beside(alloc, roads.setup())?;
+    let splits = fetch(alloc, folder, File::Splits, most)?;
+    Ok(Texts { roads, splits })
 }
 
 /// The bytes of the signals and then of the entry limits, each fetched where they are asked for.

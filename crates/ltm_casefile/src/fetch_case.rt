@@ -6,17 +6,19 @@ ghost use Rattle.ltm_casefile.specs.Case.{parts_of, is_case_file, asks_for};
 ghost use Rattle.ltm_casefile.specs.Faults.{Agrees, HasRisen, WasAsked, HidesNoMemory};
 
 use crate::faults::CaseFault;
-use crate::fetch::{LimitTexts, Texts, fetch_limits, fetch_texts};
+use crate::fetch::{fetch_limits, fetch_texts};
 use crate::setup::open_setup;
+use crate::texts::{LimitTexts, Texts};
 use ltm_io::Folder;
 use ltm_scenario::Scenario;
 use std::alloc::Global;
 use std::marker::Model;
 
-/// A scenario without links, and the files that fill it.
+/// A scenario without links, whether nodes take their routes, and the files that fill it.
 #[derive(Drop)]
 pub struct Parts {
     pub scenario: Scenario,
+    pub routes: bool,
     pub texts: Texts,
     /// The signals and the entry limits, each where the setup asks for them.
     pub limits: LimitTexts,
@@ -27,7 +29,7 @@ impl Model for Parts {
 
     ghost Value = { CaseParts };
 
-    ghost view = { λ p. record { scenario = p.scenario; texts = p.texts; limits = p.limits } };
+    ghost view = { λ p. record { scenario = p.scenario; routes = p.routes; texts = p.texts; limits = p.limits } };
 }
 
 /// Fetches the files that each case has, then reads the setup, then fetches signals and limits where it asks for them.
@@ -54,6 +56,7 @@ pub fn fetch_parts<F: Folder>(alloc: Global, folder: &mut F) -> Result<Parts, Ca
     match fetch_limits(alloc, folder, opened.asked) {
         Ok(limits) => return Ok(Parts {
             scenario: opened.scenario,
+            routes: opened.asked.routes,
             texts,
             limits,
         }),

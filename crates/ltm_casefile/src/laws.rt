@@ -4,6 +4,7 @@ ghost use Rattle.ltm_io.specs.Folder.{Files};
 ghost use Rattle.ltm_casefile.specs.Case.{case_of};
 ghost use Rattle.ltm_casefile.specs.Faults.{HidesNoMemory};
 ghost use Rattle.ltm_casefile.specs.Roads.{unsplit_case_of};
+ghost use Rattle.ltm_casefile.specs.Matrix.{NothingIsLost};
 ghost use Rattle.ltm_casefile.specs.Headers.{HeadersAreTaken, ColumnsAreAtTheirNames};
 
 /// No files make a bad case whose cause is the network's want of memory.
@@ -18,4 +19,10 @@ pub fn memory_is_never_a_bad_case()
 pub fn headers_are_read()
     ensures taken { HeadersAreTaken }
     ensures names { ColumnsAreAtTheirNames }
+{}
+
+/// What the slices of a profile get of an amount is all of it.
+#[tactic(auto, using(crate::proofs::Slices::nothing_is_lost))]
+pub fn nothing_is_lost()
+    ensures { NothingIsLost }
 {}

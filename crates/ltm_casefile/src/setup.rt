@@ -5,7 +5,7 @@ ghost use Rattle.csv.specs.Records.{fields_of};
 ghost use Rattle.ltm_records.specs.Left.{records_of};
 ghost use Rattle.ltm_casefile.specs.Faults.{Says};
 ghost use Rattle.ltm_casefile.specs.Columns.{columns_of};
-ghost use Rattle.ltm_casefile.specs.Setup.{number_if, setup_record, flags_checked, rules_checked, after_flags, in_range, opened, setup_read, only_row, setup_of, longest_beside};
+ghost use Rattle.ltm_casefile.specs.Setup.{number_if, setup_record, flags_checked, rules_checked, most_splits, after_flags, in_range, opened, setup_read, only_row, setup_of, longest_beside};
 ghost use Rattle.ltm_casefile.specs.Folder.{longest_large_file};
 
 use crate::columns::{Columns, is_setup_header};
@@ -21,6 +21,12 @@ use ltm_splits::DEFAULT_SPLIT_ROWS;
 use ltm_units::{Millis, NoMemory};
 use std::alloc::Global;
 
+/// The most rows of a case with history.
+const MOST_KEPT_ROWS: u32 = 500_000;
+
+/// The most split rows of a case without history whose nodes take their routes.
+const MOST_ROUTED_ROWS: u32 = 160_000_000;
+
 /// What the record of the setup says.
 #[derive(Clone, Copy)]
 pub struct SetupRecord {
@@ -35,18 +41,22 @@ pub struct SetupRecord {
     pub carry: u32,
     /// 0 where no history is kept.
     pub history: u32,
+    /// 1 where nodes without a split row take their routes.
+    pub routes: u32,
 }
 
-/// Which files of limits the setup asks for.
+/// What the setup asks for: files of limits, and routes.
 #[derive(Clone, Copy)]
 pub struct Asked {
     /// The exit limits.
     pub signals: bool,
     /// The entry limits.
     pub limits: bool,
+    /// For each node without a split row for a destination its routes.
+    pub routes: bool,
 }
 
-/// A scenario without links, and which files of limits come with the case.
+/// A scenario without links, and what the setup asks for.
 #[derive(Drop)]
 pub struct Opened {
     pub scenario: Scenario,
@@ -64,6 +74,20 @@ fn read_if(there: bool, absent: u32, row: &ByteRecord, field: u32) -> Result<u32
     }
 }
 
+/// How many split rows there may be: where nodes without one take their routes, one for each node and destination.
+fn most_splits(routes: u32, history: bool, rows: u32) -> u32
+    ensures { result ≡ most_splits routes history rows }
+{
+    if routes != 1 {
+        return rows;
+    }
+    if history {
+        MOST_KEPT_ROWS
+    } else {
+        MOST_ROUTED_ROWS
+    }
+}
+
 #[tactic(auto, unfolding(crate::specs::Setup::setup_record))]
 fn read_record(columns: Columns, row: &ByteRecord) -> Result<SetupRecord, CaseCause>
     ensures { result ≡ setup_record columns (fields_of row.now) }
@@ -77,7 +101,7 @@ fn read_record(columns: Columns, row: &ByteRecord) -> Result<SetupRecord, CaseCa
     let most_cells = read_if(columns.cells, DEFAULT_CELLS, row, columns.cells_field())?;
     let rows = columns.rows_field();
     let most_demand_rows = read_if(columns.rows, DEFAULT_DEMAND_ROWS, row, rows)?;
-    let most_split_rows = read_if(columns.rows, DEFAULT_SPLIT_ROWS, row, rows)?;
+    let split_rows = read_if(columns.rows, DEFAULT_SPLIT_ROWS, row, rows)?;
     let most_links = read_if(columns.links, DEFAULT_LINKS, row, columns.links_field())?;
     let destinations = columns.destinations_field();
     let most_destinations = read_if(
@@ -89,13 +113,14 @@ fn read_record(columns: Columns, row: &ByteRecord) -> Result<SetupRecord, CaseCa
     let moves = read_if(columns.moves, 0, row, columns.moves_field())?;
     let carry = read_if(columns.carry, 0, row, columns.carry_field())?;
     let history = read_if(columns.history, 1, row, columns.history_field())?;
+    let routes = read_if(columns.routes, 0, row, columns.routes_field())?;
     let setup = Setup {
         step: Millis(u64::from(step)),
         slots,
         origin_capacity,
         most_cells,
         most_demand_rows,
-        most_split_rows,
+        most_split_rows: most_splits(routes, history != 0, split_rows),
         most_links,
         most_destinations,
         by_turn: moves == 1,
@@ -109,6 +134,7 @@ fn read_record(columns: Columns, row: &ByteRecord) -> Result<SetupRecord, CaseCa
         moves,
         carry,
         history,
+        routes,
     })
 }
 
@@ -135,6 +161,9 @@ fn check_rules(columns: Columns, said: &SetupRecord) -> Result<(), CaseCause>
     }
     if said.history > 1 {
         return Err(CaseCause::Range(columns.history_field()));
+    }
+    if said.routes > 1 {
+        return Err(CaseCause::Range(columns.routes_field()));
     }
     Ok(())
 }
@@ -182,6 +211,7 @@ fn open(alloc: Global, columns: Columns, said: &SetupRecord) -> Result<Opened, C
     let asked = Asked {
         signals: said.signals == 1,
         limits: said.limits == 1,
+        routes: said.routes == 1,
     };
     Ok(Opened { scenario, asked })
 }
@@ -229,9 +259,6 @@ fn open_only_row(
     }
     Ok(opened)
 }
-
-/// The most rows of a case with history.
-const MOST_KEPT_ROWS: u32 = 500_000;
 
 /// The most bytes of the files of demand and of splits of such a setup.
 fn longest_of(setup: &Setup) -> u64

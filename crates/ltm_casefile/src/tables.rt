@@ -9,10 +9,10 @@ ghost use Rattle.ltm_casefile.specs.Folder.{longest_large_file};
 
 use crate::demand::{add_demand, is_demand_header};
 use crate::faults::{CaseCause, CaseFault, File, RecordFault};
-use crate::fetch::FileText;
 use crate::links::{add_link, is_links_header};
 use crate::side_limits::{add_limit, is_limits_header};
 use crate::splits::{add_split, is_splits_header};
+use crate::texts::FileText;
 use csv::ByteRecord;
 use ltm_records::Records;
 use ltm_scenario::{Scenario, Side};

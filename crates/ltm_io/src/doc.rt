@@ -3,9 +3,10 @@ ghost use Rattle.std.specs.Prelude.{◌≡◌, ◌<◌};
 ghost use Rattle.ltm_io.specs.Doc.{name_of, place_of};
 
 /// How many files there are.
-pub const DOC_COUNT: usize = 15;
+pub const DOC_COUNT: usize = 16;
 
-/// A file of a folder: one of the case (signals and entry limits among them), the curves, or one of eight lists of edits.
+/// A file of a folder: one of the case (signals, entry limits and the profile of a matrix among them), the curves, or one of eight
+/// lists of edits.
 #[derive(Clone, Copy, Debug, PartialEq, Eq)]
 pub enum Doc {
     Setup,
@@ -14,6 +15,7 @@ pub enum Doc {
     Splits,
     Signals,
     Limits,
+    Profile,
     Curves,
     Edits1,
     Edits2,
@@ -37,6 +39,7 @@ impl Doc {
             Doc::Splits => "splits.csv",
             Doc::Signals => "signals.csv",
             Doc::Limits => "limits.csv",
+            Doc::Profile => "profile.csv",
             Doc::Curves => "curves.csv",
             Doc::Edits1 => "edits1.jsonl",
             Doc::Edits2 => "edits2.jsonl",
@@ -61,15 +64,16 @@ impl Doc {
             Doc::Splits => 3,
             Doc::Signals => 4,
             Doc::Limits => 5,
-            Doc::Curves => 6,
-            Doc::Edits1 => 7,
-            Doc::Edits2 => 8,
-            Doc::Edits3 => 9,
-            Doc::Edits4 => 10,
-            Doc::Edits5 => 11,
-            Doc::Edits6 => 12,
-            Doc::Edits7 => 13,
-            Doc::Edits8 => 14,
+            Doc::Profile => 6,
+            Doc::Curves => 7,
+            Doc::Edits1 => 8,
+            Doc::Edits2 => 9,
+            Doc::Edits3 => 10,
+            Doc::Edits4 => 11,
+            Doc::Edits5 => 12,
+            Doc::Edits6 => 13,
+            Doc::Edits7 => 14,
+            Doc::Edits8 => 15,
         }
     }
 }

@@ -45,7 +45,7 @@ impl MemFolder {
         Ok(MemFolder {
             files: [
                 None, None, None, None, None, None, None, None, None, None, None, None, None, None,
-                None,
+                None, None,
             ],
             faults: [0; DOC_COUNT],
             calls: 0,
@@ -83,6 +83,7 @@ impl MemFolder {
                 Some(links),
                 Some(demand),
                 Some(splits),
+                None,
                 None,
                 None,
                 None,

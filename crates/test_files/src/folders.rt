@@ -10,6 +10,9 @@ pub const LINKS: &str = "link,from,to,length_m,free_kmh,wave_kmh,jam_per_km\n";
 
 pub const DEMAND: &str = "origin,destination,from_slot,to_slot,vehicles\n";
 
+/// Of the slices of a matrix.
+const PROFILE: &str = "from_slot,to_slot,share\n";
+
 pub const SPLITS: &str = "node,destination,from_slot,weights\n";
 
 /// Of signals and of entry limits.
@@ -24,6 +27,8 @@ pub enum Base {
     OneRoad,
     /// The same, with this setup.
     Setup(&'static str),
+    /// The one road, with this setup and this demand.
+    Demand(&'static str, &'static str),
     /// ```text
     ///              n2
     ///         a  ↗    ↘  b
@@ -58,18 +63,21 @@ fn header(doc: Doc) -> &'static str {
         Doc::Setup => SETUP,
         Doc::Links => LINKS,
         Doc::Demand => DEMAND,
+        Doc::Profile => PROFILE,
         Doc::Splits => SPLITS,
         _ => SIDE_LIMITS,
     }
 }
 
-fn road_with(alloc: Global, setup: &str) -> Result<MemFolder, NoMemory> {
+const ONE_VEHICLE: &str = "origin,destination,from_slot,to_slot,vehicles\nn1,n2,0,2,1\n";
+
+fn road_with(alloc: Global, setup: &str, demand: &str) -> Result<MemFolder, NoMemory> {
     MemFolder::of_case(
         alloc,
         &[],
         setup,
         "link,from,to,length_m,free_kmh,wave_kmh,jam_per_km\na,n1,n2,20,36,18,150\n",
-        "origin,destination,from_slot,to_slot,vehicles\nn1,n2,0,2,1\n",
+        demand,
         "node,destination,from_slot,weights\nn1,n2,0,a=1\n",
     )
 }
@@ -89,8 +97,15 @@ fn three_roads(alloc: Global) -> Result<MemFolder, NoMemory> {
 pub fn folder_of(alloc: Global, base: Base) -> Result<MemFolder, NoMemory> {
     match base {
         Base::Empty => MemFolder::create(alloc, &[]),
-        Base::OneRoad => road_with(alloc, "step_ms,slots,origin_capacity\n1000,4,1\n"),
-        Base::Setup(setup) => road_with(alloc, setup),
+        Base::OneRoad => {
+            road_with(
+                alloc,
+                "step_ms,slots,origin_capacity\n1000,4,1\n",
+                ONE_VEHICLE,
+            )
+        }
+        Base::Setup(setup) => road_with(alloc, setup, ONE_VEHICLE),
+        Base::Demand(setup, demand) => road_with(alloc, setup, demand),
         Base::ThreeRoads => three_roads(alloc),
         Base::ManyLinks => many_links(alloc),
         Base::ManyDemands => many_demands(alloc),

@@ -25,6 +25,8 @@ mod long;
 #[cfg(test)]
 mod made_curves;
 #[cfg(test)]
+mod matrix;
+#[cfg(test)]
 mod opened;
 #[cfg(test)]
 mod pieces;

@@ -165,6 +165,12 @@ fn refuses_cases(rt: HostRuntime) {
             "bad case limits row 3 BadSlots\n",
         ),
         (
+            File::Profile,
+            2,
+            CaseCause::Range(3),
+            "bad case profile row 2 Range 3\n",
+        ),
+        (
             File::Links,
             3,
             CaseCause::Network(NetworkFault::TwiceNamed),

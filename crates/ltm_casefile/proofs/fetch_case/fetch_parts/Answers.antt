@@ -11,7 +11,7 @@ pub returns-in-Err-clause-asked : goal.returns-in-Err-clause-asked
 returns-in-Err-clause-asked g c = told_asked _ c.in_ok-texts.texts c.setup.result.now c.in_ok-opened.opened _ c.in_ok-texts.ensures.ok c.setup.ensures c.in_ok-opened.ensures.ok c.in-Err.ensures.asked
 
 pub returns-in-Err-clause-unasked : goal.returns-in-Err-clause-unasked
-returns-in-Err-clause-unasked g c = told_others _ c.in_ok-texts.texts c.setup.result.now c.in_ok-opened.opened (g.F.Folder.faults c.args.folder.now) (g.F.Folder.faults c.fetch_texts.new.folder) (g.F.Folder.faults c.fetch_limits.new.folder) c.in_ok-texts.ensures.ok c.setup.ensures c.in_ok-opened.ensures.ok c.fetch_texts.ensures.others c.fetch_limits.ensures.others
+returns-in-Err-clause-unasked g c = told_others _ c.in_ok-texts.texts c.setup.result.now c.in_ok-opened.opened (g.F.Folder.faults c.args.folder.now) (g.F.Folder.faults c.fetch_texts.new.folder) (g.F.Folder.faults c.fetch_limits.new.folder) c.in_ok-texts.ensures.ok c.setup.ensures c.in_ok-opened.ensures.ok c.fetch_texts.ensures.unasked c.fetch_limits.ensures.others
 
 pub returns-in-Ok-clause-unasked : goal.returns-in-Ok-clause-unasked
-returns-in-Ok-clause-unasked g c = told_others _ c.in_ok-texts.texts c.setup.result.now c.in_ok-opened.opened (g.F.Folder.faults c.args.folder.now) (g.F.Folder.faults c.fetch_texts.new.folder) (g.F.Folder.faults c.fetch_limits.new.folder) c.in_ok-texts.ensures.ok c.setup.ensures c.in_ok-opened.ensures.ok c.fetch_texts.ensures.others c.fetch_limits.ensures.others
+returns-in-Ok-clause-unasked g c = told_others _ c.in_ok-texts.texts c.setup.result.now c.in_ok-opened.opened (g.F.Folder.faults c.args.folder.now) (g.F.Folder.faults c.fetch_texts.new.folder) (g.F.Folder.faults c.fetch_limits.new.folder) c.in_ok-texts.ensures.ok c.setup.ensures c.in_ok-opened.ensures.ok c.fetch_texts.ensures.unasked c.fetch_limits.ensures.others
