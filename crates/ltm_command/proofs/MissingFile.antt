@@ -29,6 +29,7 @@ failed report told before now file.Demand asked rose = (doc.Demand, refl, asked,
 failed report told before now file.Splits asked rose = (doc.Splits, refl, asked, rose)
 failed report told before now file.Signals asked rose = (doc.Signals, refl, asked, rose)
 failed report told before now file.Limits asked rose = (doc.Limits, refl, asked, rose)
+failed report told before now file.Profile asked rose = (doc.Profile, refl, asked, rose)
 failed report told before now file.Whole asked rose = absurd rose
 
 -- the same of the roads and the demand
@@ -46,6 +47,7 @@ roads_failed told before now file.Demand asked rose = of_roads told before now d
 roads_failed told before now file.Splits asked rose = of_roads told before now doc.Splits asked rose
 roads_failed told before now file.Signals asked rose = of_roads told before now doc.Signals asked rose
 roads_failed told before now file.Limits asked rose = of_roads told before now doc.Limits asked rose
+roads_failed told before now file.Profile asked rose = of_roads told before now doc.Profile asked rose
 roads_failed told before now file.Whole asked rose = absurd rose
 
 pub routes_failed : (which : RouteLines) (told : Option Files) (before now : Doc → ℕ) (f : File) → WasAsked is_of_roads (fault.Folder f) → HasRisen before now (fault.Folder f) → FileFailed (command.Routes which) told before now

@@ -23,7 +23,7 @@ use Rattle.ltm_report.specs.RowReports.{state_report, curve_report, departures_r
 pub behind : (old x y t u : List ℕ) → x ≡ old ++ t → y ≡ x ++ u → y ≡ old ++ (t ++ u)
 behind old x y t u one more = more ∙ (ap (λ (z : List ℕ). z ++ u) one ∙ append_assoc old t u)
 
-version_shown : (l : Loading) (v version : ℕ) (old new : List ℕ) → v ≡ version_of l → version_of l ≡ version → new ≡ old ++ version_piece v → new ≡ old ++ version_piece version
+pub version_shown : (l : Loading) (v version : ℕ) (old new : List ℕ) → v ≡ version_of l → version_of l ≡ version → new ≡ old ++ version_piece v → new ≡ old ++ version_piece version
 version_shown l v version old new is same wrote = wrote ∙ ap (λ (n : ℕ). old ++ version_piece n) (is ∙ same)
 
 pub as_many : (n m k : ℕ) (words old new : List ℕ) (f : ℕ → ℕ) → n ≡ m → m ≡ k → new ≡ old ++ row words n f → new ≡ old ++ row words k f

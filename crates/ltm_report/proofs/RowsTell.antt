@@ -20,8 +20,9 @@ use Rattle.ltm_times.specs.Delays.{spent_on, queued_on, fullest, waited_at, long
 use Rattle.ltm_report.specs.Delays.{node_delay_line, seconds_piece, seconds_text}
 use Rattle.ltm_report.specs.DelayReports.{delay_report, link_delay_report, queue_report, node_delay_report, origin_report}
 use Rattle.ltm_report.specs.Rows.{peak_numbers, node_numbers}
+use Rattle.ltm_report.specs.Samples.{samples_report}
 use Rattle.ltm_report.specs.RowReports.{state_report, curve_report, departures_report, delays_report}
-use Rattle.ltm_report.specs.RowLaws.{StateTellsQueues, CurvesTellQueues, DeparturesTellOrigins, TotalsTellCurves, TotalsTellDepartures, LastIsTold, DelaysTellDelay}
+use Rattle.ltm_report.specs.RowLaws.{StateTellsQueues, CurvesTellQueues, DeparturesTellOrigins, TotalsTellCurves, TotalsTellDepartures, LastIsTold, SamplesTellCurves, DelaysTellDelay}
 use Rattle.ltm_report.proofs.Delayed.{no_line, some_line}
 use Rattle.ltm_report.proofs.Telling.{not_departed, some_departed}
 
@@ -82,6 +83,19 @@ pub last_is_told_holds : LastIsTold
 last_is_told_holds every slots some =
     let place : (slots - 1) / every + 1 - 1 + 1 ≡ (slots - 1) / every + 1 = omega (arith) in
     ap (λ (n : ℕ). min (n * every) slots) place ∙ min-eq_right (past_end every slots some)
+
+pub samples_tell_curves_holds : SamplesTellCurves
+unfolding curve_report departures_report samples_report
+samples_tell_curves_holds s c every = record {
+  entered = entered_link s c;
+  gone = left_link s c;
+  produced = produced_in_all s;
+  departed = departed_from s c;
+  curve = λ version name link. refl;
+  departures = λ version name node. refl;
+  samples = λ version. refl;
+  within = λ place. min-le_right ((place + 1) * every) s.slots;
+}
 
 pub totals_tell_departures_holds : TotalsTellDepartures
 unfolding departures_report

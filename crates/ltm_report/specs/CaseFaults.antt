@@ -1,7 +1,7 @@
 -- The lines that refuse a case.
 use Rattle.std.specs.Prelude.{ℕ, List, [], ◌++◌, codes}
 use Rattle.ltm_casefile.specs.declared.faults.File.{File}
-use Rattle.ltm_casefile.specs.declared.faults.File.TheVariants.{Setup, Links, Demand, Splits, Signals, Limits, Whole}
+use Rattle.ltm_casefile.specs.declared.faults.File.TheVariants.{Setup, Links, Demand, Splits, Signals, Limits, Profile, Whole}
 use Rattle.ltm_casefile.specs.declared.faults.CaseCause.{CaseCause}
 use Rattle.ltm_casefile.specs.declared.faults.CaseFault.{CaseFault}
 use Rattle.ltm_casefile.specs.declared.faults.CaseFault.TheVariants.{Bad}
@@ -16,6 +16,7 @@ file_word Demand = codes "demand"
 file_word Splits = codes "splits"
 file_word Signals = codes "signals"
 file_word Limits = codes "limits"
+file_word Profile = codes "profile"
 file_word Whole = codes "whole"
 
 -- where the fault is, as `bad case links row 3`

@@ -7,6 +7,7 @@ pub mod DelayReports
 pub mod Rows
 pub mod RowReports
 pub mod Sampled
+pub mod Samples
 pub mod RowLaws
 pub mod Causes
 pub mod CaseFaults

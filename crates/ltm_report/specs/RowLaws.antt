@@ -7,6 +7,7 @@ use Rattle.ltm_report.specs.Delays.{delay_line, link_delay_line, queue_line, nod
 use Rattle.ltm_report.specs.DelayReports.{delay_report, link_delay_report, queue_report, node_delay_report, origin_report}
 use Rattle.ltm_report.specs.Rows.{state_line, curve_line, departures_line, link_numbers, node_numbers, delays_line}
 use Rattle.ltm_report.specs.Sampled.{told_boundaries, told_at, passed_line, departed_line, passed_report, departed_report}
+use Rattle.ltm_report.specs.Samples.{samples_line, samples_report}
 use Rattle.ltm_report.specs.RowReports.{state_report, curve_report, departures_report, delays_report}
 
 -- at a link's place in `state` stand the numbers of its `queue` at the boundary, and at a node's place that of its `origin`
@@ -79,6 +80,27 @@ TotalsTellDepartures = (s : Setting) (c : Counts) (every node : ℕ) → TotalsF
 -- the last boundary is told, and of the others the multiples of so many slots
 abbrev pub LastIsTold : Type 0
 LastIsTold = (every slots : ℕ) → 0 < every → told_at every slots (told_boundaries every slots - 1) ≡ slots
+
+-- the line of all links and nodes by so many slots has at a link's place what `curve` has there of the link, and at a node's
+-- place what `departures` has there of its origin, at each boundary that it tells
+pub record SamplesOf (s : Setting) (c : Counts) (every : ℕ) : Type 0 where
+  pub entered : ℕ → ℕ → ℕ
+  pub gone : ℕ → ℕ → ℕ
+  pub produced : ℕ → ℕ → ℕ
+  pub departed : ℕ → ℕ → ℕ
+  pub curve : (version : ℕ) (name : List ℕ) (link : ℕ) →
+      curve_report version name link s c ≡ curve_line version name (s.slots + 1) (entered link) (gone link)
+  pub departures : (version : ℕ) (name : List ℕ) (node : ℕ) →
+      departures_report version name node s c ≡ departures_line version name (s.slots + 1) (produced node) (departed node)
+  pub samples : (version : ℕ) →
+      samples_report every version s c ≡ samples_line version every s.links s.nodes (told_boundaries every s.slots)
+      (λ link place. entered link (told_at every s.slots place))
+      (λ link place. gone link (told_at every s.slots place))
+      (λ node place. departed node (told_at every s.slots place))
+  pub within : (place : ℕ) → told_at every s.slots place ≤ s.slots
+
+abbrev pub SamplesTellCurves : Type 0
+SamplesTellCurves = (s : Setting) (c : Counts) (every : ℕ) → SamplesOf s c every
 
 -- `delays` has the numbers of `delay`, at a link's place those of its line in the report of a case, and at a node's place
 -- those of its line there; of a node that has no line there all are 0

@@ -10,9 +10,13 @@ use Rattle.ltm_report.specs.Delays.{node_piece, seconds_piece, spent_piece, wait
 unfoldable pub count_piece : ℕ → List ℕ
 count_piece count = number_piece (codes " ") count
 
+-- so many amounts in order, as ` 2000 400`
+abbrev pub counts : ℕ → (ℕ → ℕ) → List ℕ
+counts many count = texts_below many (λ k. count_piece (count k))
+
 -- words and so many amounts in order, as ` in 2000 400`
 unfoldable pub row : List ℕ → ℕ → (ℕ → ℕ) → List ℕ
-row words many count = words ++ texts_below many (λ k. count_piece (count k))
+row words many count = words ++ counts many count
 
 -- all links and all nodes at a boundary, as `version 0 slot 4 in 2000 400 out 400 0 queue 600 0 waiting 800 0 0`
 unfoldable pub state_line : ℕ → ℕ → ℕ → ℕ → (ℕ → ℕ) → (ℕ → ℕ) → (ℕ → ℕ) → (ℕ → ℕ) → List ℕ

@@ -19,6 +19,7 @@ fn word_of_file(file: File) -> &'static [u8]
         File::Splits => b"splits",
         File::Signals => b"signals",
         File::Limits => b"limits",
+        File::Profile => b"profile",
         File::Whole => b"whole",
     }
 }

@@ -30,6 +30,7 @@ mod row_laws;
 mod rows;
 mod sampled;
 mod sampled_report;
+mod samples;
 mod times;
 mod totals;
 
@@ -50,9 +51,10 @@ pub use refusals::{bad_slots_text, long_script_text, too_many_text, unknown_name
 pub use routes::{route_row_text, route_time_text, splits_header_text};
 pub use row_laws::{
     curves_tell_queues, delays_tell_delay, departures_tell_origins, last_is_told,
-    state_tells_queues, totals_tell_curves, totals_tell_departures,
+    samples_tell_curves, state_tells_queues, totals_tell_curves, totals_tell_departures,
 };
 pub use rows::{curve_text, departures_text, state_text};
 pub use sampled_report::sampled_report_of;
+pub use samples::samples_text;
 pub use times::time_text;
 pub use totals::{totals_line_text, totals_text};

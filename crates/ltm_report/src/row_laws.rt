@@ -1,5 +1,5 @@
 //! What holds of the lines of all links, nodes or boundaries. Each law is the contract of a function that does nothing.
-ghost use Rattle.ltm_report.specs.RowLaws.{StateTellsQueues, CurvesTellQueues, DeparturesTellOrigins, TotalsTellCurves, TotalsTellDepartures, LastIsTold, DelaysTellDelay};
+ghost use Rattle.ltm_report.specs.RowLaws.{StateTellsQueues, CurvesTellQueues, DeparturesTellOrigins, TotalsTellCurves, TotalsTellDepartures, LastIsTold, SamplesTellCurves, DelaysTellDelay};
 
 /// At a link's place `state` has the numbers of its `queue` at the boundary, at a node's place that of its `origin`.
 pub fn state_tells_queues()
@@ -29,6 +29,12 @@ pub fn totals_tell_departures()
 /// The last boundary that `totals` tells is the end of the horizon.
 pub fn last_is_told()
     ensures { LastIsTold }
+{}
+
+/// The line that answers `totals` by so many slots has at a link's place what `curve` has of it at the boundary, and at a node's
+/// place what `departures` has there.
+pub fn samples_tell_curves()
+    ensures { SamplesTellCurves }
 {}
 
 /// `delays` has the numbers of `delay` and of the lines of links and nodes behind it, and zeros where a node has no line.

@@ -5,7 +5,7 @@ ghost use Rattle.ltm_loading.specs.Setting.{Setting};
 ghost use Rattle.ltm_loading.specs.Totals.{entered_link, left_link};
 ghost use Rattle.ltm_flows.specs.Shown.{ShowsCounts, last_of, links_of, nodes_of};
 ghost use Rattle.ltm_times.specs.Queues.{queue, waiting_at};
-ghost use Rattle.ltm_report.specs.Rows.{count_piece, row};
+ghost use Rattle.ltm_report.specs.Rows.{count_piece, counts, row};
 ghost use Rattle.ltm_report.specs.RowReports.{state_report, curve_report, departures_report};
 
 use crate::links::push_name;
@@ -24,6 +24,23 @@ fn push_count(into: &mut Vec<u8>, count: Units) -> Result<(), NoMemory>
     push_number(into, b" ", u128::from(count.0))
 }
 
+/// Appends an amount for each place below a number.
+pub(crate) fn push_counts<F: Fn(u32) -> Units>(
+    into: &mut Vec<u8>,
+    many: u32,
+    count: F,
+) -> Result<(), NoMemory>
+    requires { (k : ℕ) → k < many → F.pre count k }
+    ensures { OnOk result ((f : ℕ → ℕ)
+        → ((k : ℕ) (n : Units) → k < many → F.post count k n → n.0 ≡ f k)
+        → into.new.items ≡ into.old.items ++ counts many f) }
+{
+    for k in 0..many {
+        push_count(into, count(k))?;
+    }
+    Ok(())
+}
+
 /// Appends words, and an amount for each place below a number.
 pub(crate) fn push_row<F: Fn(u32) -> Units>(
     into: &mut Vec<u8>,
@@ -37,10 +54,7 @@ pub(crate) fn push_row<F: Fn(u32) -> Units>(
         → into.new.items ≡ into.old.items ++ row words.now many f) }
 {
     push_text(into, words)?;
-    for k in 0..many {
-        push_count(into, count(k))?;
-    }
-    Ok(())
+    push_counts(into, many, count)
 }
 
 /// Appends what has entered and left each link by a boundary.

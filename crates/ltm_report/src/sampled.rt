@@ -16,7 +16,7 @@ use ltm_units::{LinkId, Name, NoMemory, NodeId, Units, push_text};
 use std::alloc::Global;
 
 /// How many boundaries are told of a loading: the multiples of so many slots, and the last.
-fn told_boundaries(every: u32, slots: u32) -> u32
+pub(crate) fn told_boundaries(every: u32, slots: u32) -> u32
     requires { 1 ≤ every }
     ensures { result ≡ says.told_boundaries every slots }
 {
@@ -35,7 +35,7 @@ fn told_at(every: u32, slots: u32, place: u32) -> u32
     slots
 }
 
-fn entered_at(loading: &Loading, every: u32, link: LinkId, place: u32) -> Units
+pub(crate) fn entered_at(loading: &Loading, every: u32, link: LinkId, place: u32) -> Units
     requires { link.0 < links_of loading.now }
     ensures { (s : Setting) (version : ℕ) (c : Counts) → ShowsCounts s version c loading.now
         → result.0 ≡ entered_link s c link.0 (says.told_at every s.slots place) }
@@ -43,7 +43,7 @@ fn entered_at(loading: &Loading, every: u32, link: LinkId, place: u32) -> Units
     loading.entered_by(link, told_at(every, loading.slots(), place))
 }
 
-fn left_at(loading: &Loading, every: u32, link: LinkId, place: u32) -> Units
+pub(crate) fn left_at(loading: &Loading, every: u32, link: LinkId, place: u32) -> Units
     requires { link.0 < links_of loading.now }
     ensures { (s : Setting) (version : ℕ) (c : Counts) → ShowsCounts s version c loading.now
         → result.0 ≡ left_link s c link.0 (says.told_at every s.slots place) }
@@ -51,7 +51,7 @@ fn left_at(loading: &Loading, every: u32, link: LinkId, place: u32) -> Units
     loading.left_by(link, told_at(every, loading.slots(), place))
 }
 
-fn departed_at(loading: &Loading, every: u32, node: NodeId, place: u32) -> Units
+pub(crate) fn departed_at(loading: &Loading, every: u32, node: NodeId, place: u32) -> Units
     requires { node.0 < nodes_of loading.now }
     ensures { (s : Setting) (version : ℕ) (c : Counts) → ShowsCounts s version c loading.now
         → result.0 ≡ departed_from s c node.0 (says.told_at every s.slots place) }

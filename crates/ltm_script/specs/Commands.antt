@@ -12,7 +12,7 @@ use Rattle.ltm_script.specs.declared.command.Question.{Question}
 use Rattle.ltm_script.specs.declared.command.Question.TheVariants as question
 use Rattle.ltm_script.specs.declared.command.CommandFault.{CommandFault}
 use Rattle.ltm_script.specs.declared.command.CommandFault.TheVariants.{NotCommand}
-use Rattle.ltm_script.specs.Members.{◌>>=◌, text_in, name_in, whole_in}
+use Rattle.ltm_script.specs.Members.{◌>>=◌, text_in, name_in, whole_of, whole_in}
 use Rattle.ltm_script.specs.Edits.{edits_from}
 
 abbrev pub count_of : Items → ℕ
@@ -32,6 +32,14 @@ batch_of (Err fault) = Err fault
 abbrev pub array_of : Option Items → Result Command CommandFault
 array_of None = Err (NotCommand 0)
 array_of (Some items) = if is_count (count_of items) then batch_of (edits_from 1 items) else Err (NotCommand 0)
+
+-- the totals by so many slots where there is a member `every`, and else those at the end
+abbrev pub totals_by : Option Data → Option Question
+totals_by None = Some question.Totals
+totals_by (Some every) = whole_of every >>= λ slots. Some (question.Samples slots)
+
+abbrev pub totals_of : Data → Option Question
+totals_of d = totals_by (get (codes "every") d)
 
 abbrev pub link_of : Data → Option Question
 link_of d = name_in (codes "link") d >>= λ link. Some (question.Link link)
@@ -57,7 +65,7 @@ departures_of d = name_in (codes "node") d >>= λ node. Some (question.Departure
 -- a question by its word
 abbrev pub question_by : List ℕ → Data → Option Question
 question_by word d =
-    if same word (codes "totals") then Some question.Totals
+    if same word (codes "totals") then totals_of d
     else if same word (codes "link") then link_of d
     else if same word (codes "time") then time_of d
     else if same word (codes "delay") then Some question.Delay

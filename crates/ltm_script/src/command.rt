@@ -16,8 +16,11 @@ pub enum Command {
 /// What is asked of the loading that is shown.
 #[derive(Drop)]
 pub enum Question {
-    /// The totals: `{"do":"totals"}`.
+    /// The totals at the end: `{"do":"totals"}`.
     Totals,
+    /// What has entered and left each link, and left each origin, by each boundary that lies a multiple of so many slots from
+    /// the start, and by the last: `{"do":"totals","every":3}`.
+    Samples { every: u32 },
     /// What has entered and left the link of this name: `{"do":"link","link":"a"}`.
     Link(Name),
     /// How long a vehicle takes to pass the link of this name that enters it at the beginning of the slot:

@@ -2,11 +2,11 @@
 ghost use Rattle.std.specs.Prelude.{◌≡◌, ◌≢◌, ◌≤◌, Some, Err, IfOk, OnErr, codes, length, option_map, option_and_then};
 ghost use Rattle.serde_json.specs.Find.{as_array, get};
 ghost use Rattle.serde_json.specs.View.{view, items_view};
-ghost use Rattle.ltm_script.specs.Commands.{question_by, command_of, array_of, HasAmounts};
+ghost use Rattle.ltm_script.specs.Commands.{totals_of, question_by, command_of, array_of, HasAmounts};
 ghost use Rattle.ltm_script.specs.Line.{reading, EveryLineIsRead};
 
 use crate::edits::read_edits;
-use crate::members::{find_name, find_text, find_whole};
+use crate::members::{find_name, find_text, find_whole, read_whole};
 use crate::{Command, CommandFault, Question};
 use ltm_scenario::{Batch, BatchFault};
 use serde_json::Value;
@@ -43,12 +43,25 @@ fn read_batch(alloc: Global, values: &Vec<Value>) -> Result<Command, CommandFaul
     }
 }
 
+/// The totals that a value asks for: by so many slots where it has a member `every`, and else those at the end.
+fn read_totals(value: &Value) -> Option<Question>
+    ensures { result ≡ totals_of (view value.now) }
+{
+    match value.get("every") {
+        Some(found) => {
+            let every = read_whole(found)?;
+            Some(Question::Samples { every })
+        }
+        None => Some(Question::Totals),
+    }
+}
+
 /// The question that a value asks by a word.
 fn read_question(value: &Value, word: &str) -> Option<Question>
     ensures { result ≡ question_by word.now (view value.now) }
 {
     match word {
-        "totals" => Some(Question::Totals),
+        "totals" => read_totals(value),
         "link" => {
             let link = find_name(value, "link")?;
             Some(Question::Link(link))

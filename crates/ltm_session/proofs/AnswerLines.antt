@@ -20,6 +20,7 @@ use Rattle.ltm_report.specs.CommandFaults.{command_fault_line}
 use Rattle.ltm_report.specs.Refusals.{unknown_name_line, bad_slots_line}
 use Rattle.ltm_report.specs.Reports.{link_report}
 use Rattle.ltm_report.specs.DelayReports.{queue_report, origin_report}
+use Rattle.ltm_report.specs.Samples.{samples_report}
 use Rattle.ltm_report.specs.RowReports.{state_report, curve_report, departures_report}
 use Rattle.ltm_core.specs.Log.{after_batches}
 use Rattle.ltm_session.specs.Reports.{time_report}
@@ -30,7 +31,7 @@ use Rattle.ltm_session.proofs.Named.{NamesOne, HasName}
 use Rattle.ltm_session.proofs.Pieces.{plain_words}
 use Rattle.ltm_session.proofs.ReportLines.{edit_fault_one, command_fault_one, unknown_name_one, bad_slots_one, accepted_one, settled_one, totals_report_one, link_report_one, time_report_one}
 use Rattle.ltm_session.proofs.DelayLines.{delay_report_one, queue_report_one, origin_report_one}
-use Rattle.ltm_session.proofs.RowLines.{state_report_one, curve_report_one, departures_report_one, delays_report_one, gap_report_one}
+use Rattle.ltm_session.proofs.RowLines.{state_report_one, samples_report_one, curve_report_one, departures_report_one, delays_report_one, gap_report_one}
 
 one_as : (text line : List ℕ) → IsOneLine line → text ≡ line → IsOneLine text
 one_as text line one is = subst IsOneLine (sym is) one
@@ -62,6 +63,9 @@ there_one word false (Ok report) plain one = bad_slots_one word plain
 
 asked_one : (n : NetworkData) (slots : ℕ) (q : Question) → NamesOne q → AreOneLine (asked n slots q)
 asked_one n slots question.Totals named = totals_report_one
+asked_one n slots (question.Samples every) named =
+    there_one (codes "totals") (nat_lt 0 every) (Ok (λ version. samples_report every version)) (plain_words (codes "totals") refl)
+    (λ version s c. samples_report_one every version s c)
 asked_one n slots (question.Link name) named =
     named_one (codes "link") (find_link n name) (λ link version. link_report version name link) (plain_words (codes "link") refl)
     (λ link version s c. link_report_one version name link s c named)

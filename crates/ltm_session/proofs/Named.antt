@@ -7,10 +7,10 @@ use Rattle.ltm_units.specs.Words.{is_name}
 use Rattle.ltm_network.specs.Names.{same}
 use Rattle.ltm_scenario.specs.declared.edit.Edit.{Edit}
 use Rattle.ltm_scenario.specs.Batch.{is_count}
-use Rattle.ltm_script.specs.Commands.{or_none, batch_of, array_of, link_of, time_of, queue_of, origin_of, state_of, curve_of, departures_of, question_by, command_by, command_from, count_of}
+use Rattle.ltm_script.specs.Commands.{or_none, batch_of, array_of, totals_by, totals_of, link_of, time_of, queue_of, origin_of, state_of, curve_of, departures_of, question_by, command_by, command_from, count_of}
 use Rattle.ltm_script.specs.Edits.{edits_from}
 use Rattle.ltm_script.specs.Line.{reading, command_in, value_of}
-use Rattle.ltm_script.specs.Members.{◌>>=◌, text_in, name_of, name_in, whole_in}
+use Rattle.ltm_script.specs.Members.{◌>>=◌, text_in, name_of, name_in, whole_of, whole_in}
 use Rattle.ltm_script.specs.declared.command.Command.{Command}
 use Rattle.ltm_script.specs.declared.command.Command.TheVariants as command
 use Rattle.ltm_script.specs.declared.command.Question.{Question}
@@ -70,6 +70,15 @@ two_named None slot ask each is = tt
 two_named (Some name) None ask each is = tt
 two_named (Some name) (Some k) ask each is = each name k is
 
+-- totals by so many slots have no name
+totals_named : (every : Option Data) → AsksNamed (totals_by every)
+totals_named None = tt
+totals_named (Some d) = samples_named (whole_of d)
+  where
+    samples_named : (slots : Option ℕ) → AsksNamed (slots >>= λ k. Some (question.Samples k))
+    samples_named None = tt
+    samples_named (Some k) = tt
+
 state_named : (slot : Option ℕ) → AsksNamed (slot >>= λ k. Some (question.State k))
 state_named None = tt
 state_named (Some k) = tt
@@ -82,7 +91,7 @@ question_named : (word : List ℕ) (d : Data) → AsksNamed (question_by word d)
 question_named word d =
     let link = named_in (text_in (codes "link") d) in
     let node = named_in (text_in (codes "node") d) in
-    asks_either (same word (codes "totals")) (Some question.Totals) _ tt
+    asks_either (same word (codes "totals")) (totals_of d) _ (totals_named (get (codes "every") d))
     (asks_either (same word (codes "link")) (link_of d) _ (one_named (name_in (codes "link") d) (λ name. question.Link name) (λ name is. is) link)
     (asks_either (same word (codes "time")) (time_of d) _ (two_named (name_in (codes "link") d) (whole_in (codes "slot") d) (λ name k. question.Time name k) (λ name k is. is) link)
     (asks_either (same word (codes "delay")) (Some question.Delay) _ tt

@@ -30,6 +30,7 @@ use Rattle.ltm_core.specs.Log.{Log, with_batch, version_now, settled_of, scenari
 use Rattle.ltm_core.specs.Settling.{IsExactCount, setting_at}
 use Rattle.ltm_report.specs.Reports.{link_report}
 use Rattle.ltm_report.specs.DelayReports.{queue_report, origin_report}
+use Rattle.ltm_report.specs.Samples.{samples_report}
 use Rattle.ltm_report.specs.RowReports.{state_report, curve_report, departures_report}
 use Rattle.ltm_session.specs.Reports.{time_report}
 use Rattle.ltm_session.specs.Questions.{Report, of_name, where_there, asked}
@@ -39,7 +40,7 @@ use Rattle.ltm_session.specs.Session.{AnswersLine, AnswersLines}
 use Rattle.ltm_session.specs.Laws.{OneOutput}
 use Rattle.ltm_times.proofs.Alike.{agree, differing_same}
 use Rattle.ltm_session.proofs.SameReports.{totals_same, links_same, times_same, delays_same, gaps_same, queues_same, origins_same}
-use Rattle.ltm_session.proofs.SameRows.{states_same, curves_same, departures_same, all_delays_same}
+use Rattle.ltm_session.proofs.SameRows.{states_same, samples_same, curves_same, departures_same, all_delays_same}
 
 -- there is one loading of a setting, and scenarios make settings
 pub record Known : Type 0 where
@@ -93,6 +94,8 @@ record Alike (n : NetworkData) (slots : ℕ) (z : Setting) (a b : Counts) : Type
 
 asked_same : (n : NetworkData) (slots : ℕ) (z : Setting) (a b : Counts) (version : ℕ) (q : Question) → Alike n slots z a b → AsksSame version z a b (asked n slots q)
 asked_same n slots z a b version question.Totals l = totals_same z a b version l.agree
+asked_same n slots z a b version (question.Samples every) l =
+    there_same version z a b (codes "totals") (nat_lt 0 every) (Ok (λ version. samples_report every version)) (λ test. samples_same z a b every version l.agree)
 asked_same n slots z a b version (question.Link name) l =
     named_same version z a b (codes "link") (find_link n name) z.links (λ link version. link_report version name link) (λ link is. link_within n name z.links link l.links is)
     (λ link there. links_same z a b version link name l.agree there)

@@ -11,7 +11,8 @@ use Rattle.ltm_report.specs.Times.{slot_piece}
 use Rattle.ltm_report.specs.Delays.{seconds_piece, spent_piece, waited_piece, node_piece}
 use Rattle.ltm_report.specs.Gaps.{gap_piece, late_piece, gap_pieces, gap_line}
 use Rattle.ltm_report.specs.GapReports.{gap_report}
-use Rattle.ltm_report.specs.Rows.{count_piece, row, state_line, curve_line, departures_line, peak_numbers, link_numbers, node_numbers, delays_line}
+use Rattle.ltm_report.specs.Rows.{count_piece, counts, row, state_line, curve_line, departures_line, peak_numbers, link_numbers, node_numbers, delays_line}
+use Rattle.ltm_report.specs.Samples.{every_piece, rows, samples_line, samples_report}
 use Rattle.ltm_report.specs.RowReports.{state_report, curve_report, departures_report, link_delays, node_delays, delays_report}
 use Rattle.ltm_session.specs.OneLine.{IsPlain, IsOneLine}
 use Rattle.ltm_session.proofs.Pieces.{plain_append, plain_words, plain_number, plain_amount}
@@ -80,6 +81,33 @@ departures_one version name many a b is =
 pub departures_report_one : (version : ℕ) (name : List ℕ) (node : ℕ) (s : Setting) (c : Counts) → is_name name ≡ true → IsOneLine (departures_report version name node s c)
 unfolding departures_report
 departures_report_one version name node s c is = departures_one version name _ _ _ is
+
+-- ---- by so many slots
+rows_plain : (words : List ℕ) (things many : ℕ) (count : ℕ → ℕ → ℕ) → IsPlain words → IsPlain (rows words things many count)
+unfolding rows
+rows_plain words things many count plain =
+    plain_append words (texts_below things (λ thing. counts many (count thing))) plain
+    (below_plain things (λ thing. counts many (count thing)) (λ thing. below_plain many (λ k. count_piece (count thing k)) (λ k. count_plain (count thing k))))
+
+every_plain : (every : ℕ) → IsPlain (every_piece every)
+unfolding every_piece
+every_plain every = plain_number (codes " every ") every (plain_words (codes " every ") refl)
+
+samples_one : (version every links nodes many : ℕ) (a b c : ℕ → ℕ → ℕ) → IsOneLine (samples_line version every links nodes many a b c)
+unfolding samples_line
+samples_one version every links nodes many a b c =
+    one_line _
+    (plain_append _ (rows (codes " departed") nodes many c)
+    (plain_append _ (rows (codes " out") links many b)
+    (plain_append _ (rows (codes " in") links many a)
+    (plain_append (version_piece version) (every_piece every) (version_plain version) (every_plain every))
+    (rows_plain (codes " in") links many a (plain_words (codes " in") refl)))
+    (rows_plain (codes " out") links many b (plain_words (codes " out") refl)))
+    (rows_plain (codes " departed") nodes many c (plain_words (codes " departed") refl)))
+
+pub samples_report_one : (every version : ℕ) (s : Setting) (c : Counts) → IsOneLine (samples_report every version s c)
+unfolding samples_report
+samples_report_one every version s c = samples_one version every s.links s.nodes _ _ _ _
 
 -- ---- delays
 blank_seconds : (n : ℕ) → IsPlain (seconds_piece (codes " ") n)

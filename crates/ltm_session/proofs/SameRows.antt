@@ -1,5 +1,6 @@
 -- Loadings of one scenario have the same reports of all links, of all nodes and of all boundaries.
-use Rattle.std.proofs.Common.{ℕ, zero, suc, ◌≡◌, ◌+◌, ◌-◌, ◌<◌, ◌≤◌, ◌++◌, List, nat_lt, refl, ap, ◌∙◌, codes, arith, if◌then◌else◌}
+use Rattle.std.proofs.Common.{ℕ, zero, suc, ◌≡◌, ◌+◌, ◌-◌, ◌*◌, ◌<◌, ◌≤◌, ◌++◌, List, nat_lt, refl, ap, ◌∙◌, codes, arith, if◌then◌else◌}
+use Rattle.std.proofs.Math.Nat.{min-le_right}
 use Rattle.ltm_units.specs.Texts.{texts_below}
 use Rattle.ltm_flows.specs.Counts.{Counts}
 use Rattle.ltm_loading.specs.Setting.{Setting}
@@ -18,7 +19,9 @@ use Rattle.ltm_report.specs.Pieces.{version_piece, newline}
 use Rattle.ltm_report.specs.Links.{name_piece}
 use Rattle.ltm_report.specs.Times.{slot_piece}
 use Rattle.ltm_report.specs.Delays.{node_piece, spent_piece, waited_piece}
-use Rattle.ltm_report.specs.Rows.{count_piece, row, state_line, curve_line, departures_line, link_numbers, node_numbers, delays_line}
+use Rattle.ltm_report.specs.Rows.{count_piece, counts, row, state_line, curve_line, departures_line, link_numbers, node_numbers, delays_line}
+use Rattle.ltm_report.specs.Sampled.{told_boundaries, told_at}
+use Rattle.ltm_report.specs.Samples.{every_piece, rows, samples_line, samples_report}
 use Rattle.ltm_report.specs.RowReports.{state_report, curve_report, departures_report, link_delays, node_delays, delays_report}
 
 below_same : (n : ℕ) (f g : ℕ → List ℕ) → ((k : ℕ) → k < n → f k ≡ g k) → texts_below n f ≡ texts_below n g
@@ -63,6 +66,32 @@ departures_same s a b version node name same there =
     let opens = version_piece version ++ codes " " ++ node_piece name ++ row (codes " produced") (s.slots + 1) (produced_in_all s node) in
     ap (λ (x : List ℕ). opens ++ x ++ newline)
     (row_same (codes " left") (s.slots + 1) (departed_from s a node) (departed_from s b node) (λ k less. departed_from_same s a b node k same there (omega arith)))
+
+-- ---- by so many slots
+rows_same : (words : List ℕ) (things many : ℕ) (f g : ℕ → ℕ → ℕ) → ((thing k : ℕ) → thing < things → f thing k ≡ g thing k) → rows words things many f ≡ rows words things many g
+unfolding rows
+rows_same words things many f g same =
+    ap (λ (x : List ℕ). words ++ x)
+    (below_same things (λ thing. counts many (f thing)) (λ thing. counts many (g thing))
+    (λ thing there. below_same many (λ k. count_piece (f thing k)) (λ k. count_piece (g thing k)) (λ k less. ap count_piece (same thing k there))))
+
+told_within : (every slots place : ℕ) → told_at every slots place ≤ slots
+told_within every slots place = min-le_right ((place + 1) * every) slots
+
+pub samples_same : (s : Setting) (a b : Counts) (every version : ℕ) → AgreeTo s a b s.slots → samples_report every version s a ≡ samples_report every version s b
+unfolding samples_report samples_line
+samples_same s a b every version same =
+    let many = told_boundaries every s.slots in
+    let opens = version_piece version ++ every_piece every in
+    let entered : Counts → ℕ → ℕ → ℕ = λ c link place. entered_link s c link (told_at every s.slots place) in
+    let left : Counts → ℕ → ℕ → ℕ = λ c link place. left_link s c link (told_at every s.slots place) in
+    let departed : Counts → ℕ → ℕ → ℕ = λ c node place. departed_from s c node (told_at every s.slots place) in
+    let first = rows_same (codes " in") s.links many (entered a) (entered b) (λ link place there. entered_same s a b link (told_at every s.slots place) same there (told_within every s.slots place)) in
+    let second = rows_same (codes " out") s.links many (left a) (left b) (λ link place there. left_same s a b link (told_at every s.slots place) same there (told_within every s.slots place)) in
+    let third = rows_same (codes " departed") s.nodes many (departed a) (departed b) (λ node place there. departed_from_same s a b node (told_at every s.slots place) same there (told_within every s.slots place)) in
+    ap (λ (x : List ℕ). opens ++ x ++ rows (codes " out") s.links many (left a) ++ rows (codes " departed") s.nodes many (departed a) ++ newline) first
+    ∙ (ap (λ (x : List ℕ). opens ++ rows (codes " in") s.links many (entered b) ++ x ++ rows (codes " departed") s.nodes many (departed a) ++ newline) second
+    ∙ ap (λ (x : List ℕ). opens ++ rows (codes " in") s.links many (entered b) ++ rows (codes " out") s.links many (left b) ++ x ++ newline) third)
 
 -- ---- delays
 pick_same : (x y u v p q last : ℕ) → x ≡ u → y ≡ v → p ≡ q → (if nat_lt x y then last else p) ≡ (if nat_lt u v then last else q)

@@ -11,6 +11,7 @@ use Rattle.ltm_report.specs.Refusals.{unknown_name_line, bad_slots_line}
 use Rattle.ltm_report.specs.Reports.{totals_report, link_report}
 use Rattle.ltm_report.specs.DelayReports.{delay_report, queue_report, origin_report}
 use Rattle.ltm_report.specs.GapReports.{gap_report}
+use Rattle.ltm_report.specs.Samples.{samples_report}
 use Rattle.ltm_report.specs.RowReports.{state_report, curve_report, departures_report, delays_report}
 use Rattle.ltm_session.specs.Reports.{time_report}
 
@@ -23,7 +24,7 @@ abbrev pub of_name : List ℕ → Option ℕ → (ℕ → Report) → Result Rep
 of_name word None report = Err (unknown_name_line word)
 of_name word (Some place) report = Ok (report place)
 
--- a report that names a slot or a boundary is refused where what is shown has none such
+-- a report that names a slot or a boundary is refused where what is shown has none such, and totals by every 0 slots
 abbrev pub where_there : List ℕ → Bool → Result Report (List ℕ) → Result Report (List ℕ)
 where_there word there (Err refusal) = Err refusal
 where_there word true (Ok report) = Ok report
@@ -32,6 +33,7 @@ where_there word false (Ok report) = Err (bad_slots_line word)
 -- what is asked of a loading of a network that has so many slots: the report, or the line that refuses the question
 abbrev pub asked : NetworkData → ℕ → Question → Result Report (List ℕ)
 asked n slots question.Totals = Ok totals_report
+asked n slots (question.Samples every) = where_there (codes "totals") (nat_lt 0 every) (Ok (λ version. samples_report every version))
 asked n slots (question.Link name) = of_name (codes "link") (find_link n name) (λ link version. link_report version name link)
 asked n slots (question.Time name slot) =
     where_there (codes "time") (nat_lt slot slots) (of_name (codes "time") (find_link n name) (λ link version. time_report version name link slot))

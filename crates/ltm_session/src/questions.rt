@@ -1,5 +1,6 @@
 //! The answers to questions: what is asked of a loading, or why it is not told. A question that names a link or a node is
-//! refused where nothing has the name, and then one that names a slot or a boundary where there is none such.
+//! refused where nothing has the name, and then one that names a slot or a boundary where there is none such; and so are totals
+//! by every 0 slots.
 ghost use Rattle.std.specs.Prelude.{◌≡◌, ◌≢◌, ◌++◌, ℕ, List, length, Ok, OnOk, OnErr};
 ghost use Rattle.ltm_flows.specs.Shown.{last_of, links_of, nodes_of};
 ghost use Rattle.ltm_script.specs.declared.command.Question.TheVariants as question;
@@ -14,11 +15,31 @@ use ltm_flows::Loading;
 use ltm_network::Network;
 use ltm_report::{
     bad_slots_text, curve_text, delay_text, delays_text, departures_text, gap_text, link_text,
-    origin_text, queue_text, state_text, totals_text, unknown_name_text,
+    origin_text, queue_text, samples_text, state_text, totals_text, unknown_name_text,
 };
 use ltm_script::{Command, Question};
 use ltm_units::{Name, NoMemory};
 use std::alloc::Global;
+
+/// Appends what has passed all links and origins by boundaries that lie so many slots apart.
+fn push_samples(
+    alloc: Global,
+    network: &Network,
+    loading: &Loading,
+    every: u32,
+    into: &mut Vec<u8>,
+) -> Result<(), NoMemory>
+    ensures ok { OnOk result (Appends loading.now
+        (asked network.now (last_of loading.now) (question.Samples every)) into.old.items
+        into.new.items) }
+    ensures err { OnErr result (into.new.items ≡ into.old.items) }
+{
+    if every > 0 {
+        samples_text(alloc, loading, every, into)
+    } else {
+        bad_slots_text(b"totals", into)
+    }
+}
 
 /// Appends what has entered and left the link of a name.
 fn push_link(
@@ -198,6 +219,7 @@ fn push_asked(
 {
     match asks {
         Question::Totals => totals_text(alloc, loading, into),
+        Question::Samples { every } => push_samples(alloc, network, loading, *every, into),
         Question::Link(name) => push_link(alloc, network, loading, name, into),
         Question::Time { link, slot } => push_travel(alloc, network, loading, link, *slot, into),
         Question::Delay => delay_text(alloc, loading, into),

@@ -18,6 +18,28 @@ fn all_is_told_at_once(rt: HostRuntime) {
     expect_answers(&rt, rt.alloc(), Case::Spillback, script, output);
 }
 
+// By hand, from the same counts at the boundaries 6, 12 and 16; `b` lets out what `a` had let out two slots before. None set out at
+// `n2` or `n3`. Where the boundaries lie further apart than the horizon is long, the last alone is told.
+#[test]
+fn all_is_told_by_so_many_slots(rt: HostRuntime) {
+    let script = "{\"do\":\"totals\",\"every\":6}\n\
+        {\"every\":16,\"do\":\"totals\"}\n\
+        {\"do\":\"totals\",\"every\":4294967295}\n\
+        {\"do\":\"totals\",\"every\":0}\n\
+        {\"do\":\"totals\",\"every\":4294967296}\n\
+        {\"do\":\"totals\",\"every\":\"6\"}\n\
+        {\"do\":\"totals\",\"slot\":6}\n";
+    let output =
+        "version 0 every 6 in 3000 4200 5000 800 2000 2800 out 800 2000 2800 400 1600 2400 departed 3000 4200 5000 0 0 0 0 0 0\n\
+        version 0 every 16 in 5000 2800 out 2800 2400 departed 5000 0 0\n\
+        version 0 every 4294967295 in 5000 2800 out 2800 2400 departed 5000 0 0\n\
+        refused totals BadSlots\n\
+        refused command NotCommand 0\n\
+        refused command NotCommand 0\n\
+        version 0 generated 7.000 arrived 2.400 on_links 2.600 waiting 2.000\n";
+    expect_answers(&rt, rt.alloc(), Case::Spillback, script, output);
+}
+
 // By hand: where `a` is shut from the start none leaves its origin, and all that is spent is waited there: 700 more in each
 // of ten slots, and then 7,000 for seven more. It is told, and has a slot more, once it is settled: that is of `n1` seventeen
 // pairs, of `n2` fifteen, which had something to send from slot 2 on, and of `n3` thirteen.
