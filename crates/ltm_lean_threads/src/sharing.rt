@@ -11,7 +11,7 @@ use crate::parts::Part;
 use ltm_lean::{NodeRoom, Tables};
 use ltm_lean_make::widest_listed;
 use ltm_scenario::Scenario;
-use ltm_setting::{in_links, node_count, out_links};
+use ltm_setting::{in_links, node_count, out_links, produced_total, slot_count};
 use ltm_units::{LinkId, NoMemory, NodeId};
 use std::alloc::Global;
 
@@ -27,14 +27,29 @@ fn entries_on(tables: &Tables, links: &[LinkId]) -> u64
     entries
 }
 
-/// What a slot of a node costs, about: an arm costs four times as much as an out-link.
+/// How many destinations can be at a node from which vehicles start: none where nobody starts.
+fn entries_of_origin(scenario: &Scenario, tables: &Tables, node: NodeId) -> u64
+    requires node { IsNode scenario.now node.0 }
+    requires tables { AreTables (setting_of scenario.now) tables.now }
+{
+    let slots = slot_count(scenario);
+    if produced_total(scenario, node, slots) == 0 {
+        return 0;
+    }
+    tables.nodes.on(node.0 as usize).len() as u64
+}
+
+/// What a slot of a node costs, about: a destination costs four at each arm, two at the origin, and one at each out-link.
 fn cost_of(scenario: &Scenario, tables: &Tables, node: NodeId) -> u64
     requires node { IsNode scenario.now node.0 }
     requires tables { AreTables (setting_of scenario.now) tables.now }
 {
     let arms = entries_on(tables, in_links(scenario, node));
     let outs = entries_on(tables, out_links(scenario, node));
-    arms.saturating_mul(4).saturating_add(outs)
+    let starts = entries_of_origin(scenario, tables, node);
+    arms.saturating_mul(4)
+        .saturating_add(starts.saturating_mul(2))
+        .saturating_add(outs)
 }
 
 /// The first node by which the nodes before it cost as much, and how many nodes there are where all of them cost less.
