@@ -13,6 +13,7 @@ import sys
 from collections.abc import Iterable, Iterator, Sequence
 from dataclasses import dataclass
 from fractions import Fraction
+from itertools import chain, islice
 from pathlib import Path
 from typing import NamedTuple
 
@@ -22,6 +23,7 @@ from .replacing import make_folders, missing_folders, replace, try_to_write
 
 
 NEW_LINE = b"\n"
+LINES_OF_A_BLOCK = 4096
 TRIED = "tried"  # a file that is written into a folder to see whether one can be
 NO_TEXT = re.compile("[\ud800-\udfff]")  # halves of pairs, by which a byte that is no text is kept
 
@@ -246,8 +248,8 @@ def write_text(path: str | os.PathLike[str], text: str) -> None:
         write_bytes(path, text.encode())
 
 
-def write_bytes(path: str | os.PathLike[str], data: bytes) -> None:
-    """Writes a file of these bytes, whole or not at all."""
+def write_bytes(path: str | os.PathLike[str], data: bytes | Iterable[bytes]) -> None:
+    """Writes a file of these bytes, or of what is told of them block by block, whole or not at all."""
     try:
         replace(path, data)
     except OSError as error:
@@ -260,8 +262,19 @@ def write_records(path: str | os.PathLike[str], header: Sequence[str], rows: Ite
 
 
 def write_lines(path: str | os.PathLike[str], header: Sequence[str], lines: Iterable[str]) -> None:
-    """The same of records that are lines already, without their end."""
-    write_text(path, "\n".join((",".join(header), *lines, "")))
+    """The same of records that are lines already, without their end; they are taken as they are written."""
+    blocks = blocks_of(chain((",".join(header),), lines))
+    if os.fspath(path) == "-":
+        sys.stdout.writelines(blocks)
+    else:
+        write_bytes(path, map(str.encode, blocks))
+
+
+def blocks_of(lines: Iterable[str]) -> Iterator[str]:
+    """Lines with their ends, many together, as they can be written."""
+    left = iter(lines)
+    while block := list(islice(left, LINES_OF_A_BLOCK)):
+        yield readable("\n".join((*block, "")))
 
 
 def check_output(path: str | os.PathLike[str]) -> None:

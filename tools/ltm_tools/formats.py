@@ -63,7 +63,9 @@ MOST_DEMAND_ROWS = 10_000  # of a case whose setup has no column `rows`
 MOST_SPLIT_ROWS = 50_000  # of such a case too
 MOST_ROWS_ASKED = 500_000  # of either
 MOST_ROWS_NO_HISTORY = 8_000_000
+MOST_ROUTED_ROWS = 160_000_000  # of splits, with 1 in the column `routes` and 0 in `history`
 MOST_WEIGHTS = 4  # of a split row
+MOST_SHARE = 1_000_000  # of a slice of a profile
 MOST_CELLS = 54_000_000  # of a case whose setup has no column `cells`
 MOST_CELLS_ASKED = 4_294_967_295
 ANSWERING = "load, delay, gap, totals and routes"  # the words that answer of a case without history
@@ -80,20 +82,30 @@ MOST_EDITORS = 8
 # the files of a case, in the order in which they are read: the fields of each header
 SETUP = ("step_ms", "slots", "origin_capacity")
 # may stand behind these three, each or not, in this order
-SETUP_MORE = ("signals", "limits", "cells", "rows", "links", "destinations", "moves", "carry", "history")
+SETUP_MORE = ("signals", "limits", "cells", "rows", "links", "destinations", "moves", "carry", "history", "routes")
 LINKS = ("link", "from", "to", "length_m", "free_kmh", "wave_kmh", "jam_per_km")
 DEMAND = ("origin", "destination", "from_slot", "to_slot", "vehicles")
+MATRIX = ("origin", "destination", "vehicles")  # of a demand.csv that is split over the slices of profile.csv
+PROFILE = ("from_slot", "to_slot", "share")
 SPLITS = ("node", "destination", "from_slot", "weights")
 SIGNALS = ("link", "from_slot", "to_slot", "vehicles")
-HEADERS = {"setup": SETUP, "links": LINKS, "demand": DEMAND, "splits": SPLITS, "signals": SIGNALS, "limits": SIGNALS}
+HEADERS = {
+    "setup": SETUP,
+    "links": LINKS,
+    "demand": DEMAND,
+    "profile": PROFILE,
+    "splits": SPLITS,
+    "signals": SIGNALS,
+    "limits": SIGNALS,
+}
 CURVES = ("kind", "name", "destination", "counts")
 QUOTE = '"'  # of a field of CSV, and within it twice
 
 
 def headers_of(file: str) -> list[tuple[str, ...]]:
-    """The headers that a file of a case may have: one, and for `setup` its three fields with each column behind them or
-    not, in order."""
-    headers: list[tuple[str, ...]] = [HEADERS[file]]
+    """The headers that a file of a case may have: one; for `demand` that of rows and that of a matrix; and for `setup`
+    its three fields with each column behind them or not, in order."""
+    headers: list[tuple[str, ...]] = [HEADERS[file], MATRIX] if file == "demand" else [HEADERS[file]]
     for column in SETUP_MORE if file == "setup" else ():
         headers += [(*header, column) for header in headers]
     return headers
@@ -229,11 +241,14 @@ def weights_text(weights: dict[str, int]) -> str:
 def record_text(fields: Iterable[object]) -> str:
     """A record of CSV without its end: fields with commas between, in quotes where one has a comma, a quote or a line's
     end, or is empty and stands alone."""
-    texts = [str(field) for field in fields]
-    return ",".join(
-        f'"{text.replace(QUOTE, QUOTE + QUOTE)}"' if any(sign in text for sign in ',"\n\r') or texts == [""] else text
-        for text in texts
-    )
+    texts = [field_text(field) for field in fields]
+    return QUOTE + QUOTE if texts == [""] else ",".join(texts)
+
+
+def field_text(field: object) -> str:
+    """A field of such a record, in quotes where it needs them."""
+    text = str(field)
+    return f'"{text.replace(QUOTE, QUOTE + QUOTE)}"' if any(sign in text for sign in ',"\n\r') else text
 
 
 def count_text(number: int) -> str:

@@ -37,7 +37,7 @@ class Changes:
         self.folders: list[str] = []
         self.name = secrets.token_hex(6)
 
-    def write(self, path: str, data: bytes) -> None:
+    def write(self, path: str, data: bytes | Iterable[bytes]) -> None:
         """Writes a file beside its place."""
         was, made = self.new.get(path), name_beside(path, self.name)
         self.new[path] = made  # known before it is there, so that it goes wherever this is interrupted
@@ -145,12 +145,12 @@ def together() -> Iterator[None]:
         open_changes.reset(token)
 
 
-def replace(path: str | os.PathLike[str], data: bytes) -> None:
+def replace(path: str | os.PathLike[str], data: bytes | Iterable[bytes]) -> None:
     """Writes a file, in the place of one that is there; within `together` with the others."""
     name = os.fspath(path)
     if is_no_file(name):
         with open(name, "wb") as file:
-            file.write(data)
+            file.writelines(blocks_of(data))
         return
     changes, place = open_changes.get(), os.path.realpath(name)
     if changes is not None:
@@ -270,7 +270,12 @@ def alone_in(folders: Iterable[str]) -> Iterator[None]:
         yield
 
 
-def write_beside(path: str, made: str, data: bytes) -> None:
+def blocks_of(data: bytes | Iterable[bytes]) -> Iterable[bytes]:
+    """What is to be written, block by block."""
+    return (data,) if isinstance(data, bytes) else data
+
+
+def write_beside(path: str, made: str, data: bytes | Iterable[bytes]) -> None:
     """Writes a new file beside the place of another, with its rights and its owner where it is there."""
     check_rights(path)
     with open(made, "xb") as file:
@@ -278,7 +283,7 @@ def write_beside(path: str, made: str, data: bytes) -> None:
             was = os.stat(path)
             os.fchmod(file.fileno(), stat.S_IMODE(was.st_mode))
             os.fchown(file.fileno(), was.st_uid, was.st_gid)
-        file.write(data)
+        file.writelines(blocks_of(data))
 
 
 @contextlib.contextmanager

@@ -134,9 +134,9 @@ def setup_at_random(pick: random.Random) -> str:
 
 class Columns(ColumnsTest):
     def test_headers(self) -> None:
-        """Of nine columns each or not, in order: 512 headers."""
+        """Of ten columns each or not, in order: 1,024 headers."""
         more = [header[len(SETUP) :] for header in headers_of("setup")]
-        self.assertEqual((len(more), len(set(more))), (512, 512))
+        self.assertEqual((len(more), len(set(more))), (1024, 1024))
         self.assertTrue(
             {
                 (),
@@ -146,6 +146,7 @@ class Columns(ColumnsTest):
                 ("rows", "moves"),
                 ("moves", "carry"),
                 ("carry", "history"),
+                ("history", "routes"),
                 ("signals", "links", "destinations"),
                 SETUP_MORE,
             }
@@ -192,8 +193,9 @@ class Columns(ColumnsTest):
                 setup.moves,
                 setup.carry,
                 setup.history,
+                setup.routes,
             ),
-            (54_000_000, 10_000, 50_000, 4_000, 64, False, False, True),
+            (54_000_000, 10_000, 50_000, 4_000, 64, False, False, True, False),
         )
         setup = Case.read(self.made(SIZES["sizes-signals-limits-cells-rows-links-destinations-moves"]["files"])).setup
         self.assertEqual(
@@ -274,7 +276,7 @@ class Columns(ColumnsTest):
         for name, parts in {
             "head-bad-limits-signals": [
                 "exactly step_ms,slots,origin_capacity, and behind it each of signals, limits,"
-                " cells, rows, links, destinations, moves, carry, history or not, in this order"
+                " cells, rows, links, destinations, moves, carry, history, routes or not, in this order"
             ],
             "head-limits-limits-2": ['limits "2"', "1 where there is a limits.csv"],
             "head-signals-limits-cells-cells-0": ['cells "0"', "1 to 4,294,967,295"],

@@ -3,10 +3,11 @@ through a node that both come to; and with a queue over the edge."""
 import csv
 import unittest
 from pathlib import Path
+from unittest import mock
 
 import commands
 from support import BUILT, FolderTest, needs_program
-from ltm_tools.case import Link
+from ltm_tools.case import Link, history
 from ltm_tools.case.roads import Roads
 from ltm_tools.cutting.exits import parts_of
 from ltm_tools.cutting.inside import Inside
@@ -47,6 +48,7 @@ CASE = {
     "demand": DEMAND,
     "splits": SPLITS,
 }
+NO_HISTORY = "step_ms,slots,origin_capacity,history\n1000,60,32,0\n"
 BOX = ("--box", "0", "0", "50", "0")
 
 
@@ -129,6 +131,36 @@ class ACut(FolderTest):
             status, _, err = self.cut(*words)
             self.assertEqual((status, err.count("\n")), (1, 1))
             self.assertIn(told, err)
+
+    def test_a_whole_without_history(self) -> None:
+        """It is cut by a copy that keeps one, and the cut keeps one itself."""
+        kept = self.cut(*BOX)
+        files = {path.name: path.read_bytes() for path in (self.folder / "out").iterdir()}
+        self.assertEqual(self.cut(*BOX, setup=NO_HISTORY), kept)
+        self.assertEqual({path.name: path.read_bytes() for path in (self.folder / "out").iterdir()}, files)
+        self.assertEqual(self.rows("setup.csv"), [("1000", "60", "32")])
+
+    def test_a_whole_that_is_too_large(self) -> None:
+        """One line says why totals do not do, and what would help, and there is no case."""
+        with mock.patch.object(history, "MOST_DESTINATIONS_ASKED", 1):
+            status, _, err = self.cut(*BOX, setup=NO_HISTORY)
+        self.assertEqual(status, 1)
+        self.assertRegex(
+            err,
+            r"\Altm-tools cut: \S+/case keeps no history of its loading \(history is 0 in setup.csv\), and a curve for"
+            r" each destination, which ltm totals does not tell, needs one. It is too large to keep one, with 2"
+            r" destinations \(at most 1\): gather zones into fewer, or import a smaller area\n\Z",
+        )
+        self.assertFalse((self.folder / "out" / "setup.csv").exists())
+
+    def test_a_copy_that_cannot_be_loaded(self) -> None:
+        """The case is named, and not the copy."""
+        case = self.case(**{**CASE, "setup": NO_HISTORY})
+        (case / "nodes.csv").write_text(NODES)
+        words = ("cut", str(case), *BOX, "-o", str(self.folder / "out"), "--program", str(self.program("sys.exit(9)")))
+        status, _, err = commands.run(*words)
+        told = f"ltm-tools cut: {case}: ltm curves ended with status 9: no answer, in a copy that keeps its history\n"
+        self.assertEqual((status, err), (1, told))
 
     def test_a_file_beside_without_a_field(self) -> None:
         """One line says what is missing, and there is no case."""

@@ -68,7 +68,7 @@ CASES: dict[str, tuple[dict[str, str], int, str, list[str]]] = {
         "bad case setup row 1 Header",
         [
             "exactly step_ms,slots,origin_capacity, and behind it each of signals, limits, cells, rows,"
-            " links, destinations, moves, carry, history or not, in this order",
+            " links, destinations, moves, carry, history, routes or not, in this order",
             '"step,slots"',
         ],
     ),
@@ -494,6 +494,8 @@ class Scripts(FolderTest):
                 "NotCommand 0",
                 "the member slot is -0.0; expected a whole number",
             ),
+            ('{"do": "totals", "every": -1}', "NotCommand 0", "the member every is -1; expected a whole number from 0"),
+            ('{"do": "totals", "every": null}', "NotCommand 0", "the member every is null; expected a whole number"),
             ('{"do": "time", "link": "a", "slot": true}', "NotCommand 0", "the member slot is true"),
             ('{"do": "link", "link": "a b"}', "NotCommand 0", 'the member link is "a b"; expected a name'),
             ('{"do": "edit"}', "NotCommand 0", "the member edits was looked for"),
@@ -586,6 +588,8 @@ class Scripts(FolderTest):
         )
 
     def test_members_that_are_passed_over(self) -> None:
+        self.assertEqual(read_line(b'{"do": "totals", "every": 3, "slot": 1}').passed_over, ["slot"])
+        self.assertEqual(read_line(b'{"do": "delay", "every": "3"}').passed_over, ["every"])
         script = self.folder / "script.jsonl"
         script.write_text(
             '{"do": "totals"}\n{"do": "link", "link": "a", "slot": 3}\n'
@@ -655,7 +659,7 @@ class Words(FolderTest):
             [
                 "setup.csv, history 0: session needs the history of a loading, and this case keeps none; load, delay,"
                 " gap, totals and routes answer",
-                "    it is small enough for one: take the column history out of setup.csv",
+                "    It is small enough to keep one: remove the column history from setup.csv",
             ],
         )
         self.assertEqual(explain(case, 14, "loading yes", ["check"]), [])
@@ -670,8 +674,8 @@ class Words(FolderTest):
         }
         self.assertEqual(
             explain(str(self.case(**files)), 14, "no history", ["curves"])[1],
-            "    it is too large for one, with 257 destinations (at most 256): gather zones into fewer, take a longer"
-            " step or a shorter horizon, or take a smaller area",
+            "    It is too large to keep one, with 257 destinations (at most 256): gather zones into fewer, or import a"
+            " smaller area",
         )
 
     def test_faults_of_the_outside(self) -> None:

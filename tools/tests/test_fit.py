@@ -5,6 +5,7 @@ from fractions import Fraction
 
 from support_roads import network, road
 from ltm_tools.case.roads import Roads
+from ltm_tools.demand.volumes import Volumes
 from ltm_tools.network.fit import FittedNetwork
 from ltm_tools.network.importing import source_of
 from ltm_tools.network.od_nodes import fewer_ends
@@ -242,7 +243,7 @@ class Ends(unittest.TestCase):
     def test_fewer(self) -> None:
         """Of two destinations the one with more trips stays, 50 km or 5,000 seconds before the other."""
         raw, notes = network(road("a", "s", "near", 360), road("b", "near", "far", 50_000)), list[str]()
-        volumes = {("s", "near"): Fraction(3), ("s", "far"): Fraction(2)}
+        volumes = Volumes.of({("s", "near"): Fraction(3), ("s", "far"): Fraction(2)})
         self.assertEqual(fewer_ends(raw, volumes, 1, notes), {("s", "near"): Fraction(5)})
         told = "40.0 % of the vehicles end at another node, in the mean 5000 s away, and 0 vehicles have no way left"
         self.assertEqual(notes, [f"1 of 2 destinations are kept; {told} and are left out"])

@@ -12,8 +12,8 @@ from unittest import mock
 import commands
 from stage import CURVES, RUNS, Run, set_up
 from support import EXAMPLES, FolderTest, needs, needs_program
-from ltm_tools.case import Case, Demand, Link, Setup, Split
-from ltm_tools.case.history import NoHistory, check_history, to_have_one, too_large
+from ltm_tools.case import Case, Demand, Link, Setup, Split, history
+from ltm_tools.case.history import NoHistory, check_history, keeping_one, to_have_one, too_large
 from ltm_tools.errors import Fault
 from ltm_tools.libraries import missing
 from ltm_tools.loading.loaded import loaded
@@ -21,9 +21,21 @@ from ltm_tools.loading.sides import totals_at_end
 from ltm_tools.loading.totals import written_totals
 from ltm_tools.scenario.session import Session
 
-ANSWER = ("inspect", "queues", "times", "compare case other", "page", "geojson", "flows", "validate", "drive", "draw")
+ANSWER = (
+    "inspect",
+    "queues",
+    "times",
+    "compare case other",
+    "page",
+    "geojson",
+    "flows",
+    "validate",
+    "drive",
+    "draw",
+    "cut",
+)
 ASSIGN = ("assign", "closures")
-REFUSE = ("apply", "cut", "compare case --script", "sweep", "signals turning --optimise", "bottlenecks", "calibrate")
+REFUSE = ("apply", "compare case --script", "sweep", "signals turning --optimise", "bottlenecks", "calibrate")
 NOT_LOADED = ("from-", "demand", "splits", "signals case", "turns", "explain", "plot")
 """How the words of the runs begin that need no loading, or draw a curve file."""
 SECONDS = re.compile(r" +[0-9.]+$", re.MULTILINE)
@@ -119,8 +131,8 @@ class Commands(FolderTest):
                 self.assertEqual((other[0], other[1], other[3]), (1, "", {}))
                 self.assertRegex(
                     other[2],
-                    r"\Altm-tools [a-z]+: \S+ keeps no history of its loading, which (a session needs|curves by"
-                    r" destination need); it is small enough for one: take the column history out of setup.csv\n\Z",
+                    r"\Altm-tools [a-z]+: \S+ keeps no history of its loading \(history is 0 in setup.csv\), and a"
+                    r" session needs one. It is small enough to keep one: remove the column history from setup.csv\n\Z",
                 )
 
     @needs_program
@@ -130,7 +142,12 @@ class Commands(FolderTest):
             with mock.patch("webbrowser.open", side_effect=KeyboardInterrupt):
                 status, out, err, made = self.told(run, False)
             self.assertEqual((status, out, made), (1, "", {}))
-            self.assertIn("case keeps no history of its loading, which a session needs", err)
+            self.assertIn(
+                "case keeps no history of its loading (history is 0 in setup.csv), and the live map needs one", err
+            )
+            self.assertTrue(
+                err.endswith(". It is small enough to keep one: remove the column history from setup.csv\n")
+            )
 
 
 @needs_program
@@ -156,7 +173,10 @@ class Loadings(FolderTest):
                 self.assertEqual(one.totals, curves.totals)  # type: ignore[attr-defined]
                 ends = [totals_at_end(some, arrived[0][-1]) for some in (with_one, other)]
                 self.assertEqual(ends[0], ends[1])
-                with self.assertRaisesRegex(NoHistory, "which curves by destination need; it is small enough"):
+                with self.assertRaisesRegex(
+                    NoHistory,
+                    "and a curve for each destination, which ltm totals does not tell, needs one. It is small enough",
+                ):
                     curves.up(case.links[0].name, case.destinations[0])
 
     def test_a_session(self) -> None:
@@ -164,7 +184,7 @@ class Loadings(FolderTest):
         with Session(self.folder) as session:
             self.assertGreater(session.totals().generated, 0)
         without_history(self.folder)
-        with self.assertRaisesRegex(NoHistory, "which a session needs"):
+        with self.assertRaisesRegex(NoHistory, "and a session needs one"):
             Session(self.folder)
 
 
@@ -177,13 +197,17 @@ class Rules(FolderTest):
             with self.assertRaisesRegex(Fault, "is no line of . counts"):
                 list(written_totals(lines, boundaries))
 
-    def test_what_would_let_it_have_one(self) -> None:
+    def chain(self) -> Case:
+        """A case of 300 links one behind the other, without history."""
         links = [Link(f"a{k}", f"n{k}", f"n{k + 1}", 20, 36, 18, 150) for k in range(300)]
-        case = Case(
+        return Case(
             Setup(1000, 4, 1000, history=False), links, [Demand("n0", "n1", 0, 1, 1)], [Split("n0", "n1", 0, {"a0": 1})]
         )
+
+    def test_what_would_let_it_have_one(self) -> None:
+        case = self.chain()
         self.assertEqual(too_large(case), [])
-        self.assertEqual(to_have_one(case), "it is small enough for one: take the column history out of setup.csv")
+        self.assertEqual(to_have_one(case), "It is small enough to keep one: remove the column history from setup.csv")
         case.setup.slots = 10_000
         for end in range(1, 260):
             case.demand.append(Demand("n0", f"n{end}", 0, 1, 1))
@@ -192,16 +216,55 @@ class Rules(FolderTest):
             too_large(case), ["259 destinations (at most 256)", f"{case.cells():,} cells (at most 4,294,967,295)"]
         )
         with self.assertRaisesRegex(
-            NoHistory, "it is too large for one, with 259 destinations .* cells .*: gather zones"
+            NoHistory,
+            r"\Atown keeps no history of its loading \(history is 0 in setup.csv\), and a session needs one. It is too"
+            " large to keep one, with 259 destinations .* cells .*: gather zones into fewer, or take a longer step or a"
+            r" shorter horizon, or import a smaller area\Z",
         ):
-            check_history(case, "town", "a session needs")
+            check_history(case, "town", "a session")
         case.setup.history = True
-        check_history(case, "town", "a session needs")
+        check_history(case, "town", "a session")
         case.setup.history, case.demand = False, case.demand[:60]
         self.assertGreater(case.cells(), 54_000_000)
-        self.assertTrue(to_have_one(case).endswith("out of setup.csv, and ask for its cells in cells"))
+        cells = -(-case.cells() // 1_000_000) * 1_000_000
+        self.assertTrue(to_have_one(case).endswith(f"from setup.csv, and ask for {cells} in its column cells"))
+        case.setup.cells = 1
+        self.assertTrue(to_have_one(case).endswith(f"from setup.csv, and write {cells} in its column cells"))
         case.setup.cells = case.cells()
-        self.assertTrue(to_have_one(case).endswith("out of setup.csv"))
+        self.assertTrue(to_have_one(case).endswith("from setup.csv"))
+
+    def test_what_is_too_much_says_what_helps(self) -> None:
+        """Rows are not made fewer by a longer step, nor links by fewer zones."""
+        case = self.chain()
+        for changed, told in (
+            ({"MOST_LINKS_ASKED": 299}, "300 links (at most 299): import a smaller area"),
+            (
+                {"MOST_ROWS_ASKED": 0},
+                "1 row (at most 0): gather zones into fewer, or let demand and turning fractions stay the same for"
+                " longer, or import",
+            ),
+            ({"MOST_FILE_BYTES": 61}, "62 bytes of demand.csv (at most 61): gather zones into fewer, or let demand"),
+            ({"MOST_FILE_BYTES": 62}, "small enough"),
+        ):
+            with self.subTest(told), mock.patch.multiple(history, **changed):
+                self.assertIn(told, to_have_one(case))
+                self.assertEqual(keeping_one(case) is None, told != "small enough")
+
+    def test_a_copy_that_keeps_one(self) -> None:
+        """It asks for as much as it has, and for no more than may be asked for with a history."""
+        case = self.chain()
+        case.setup.links, case.setup.destinations, case.setup.rows = 40_000, 2_000, 8_000_000
+        case.setup.moves = case.setup.carry = True
+        case.setup.slots = 2_000
+        for end in range(2, 60):
+            case.demand.append(Demand("n0", f"n{end}", 0, 1, 1))
+        kept = keeping_one(case)
+        assert kept is not None
+        cells = -(-case.cells() // 1_000_000) * 1_000_000
+        self.assertEqual(
+            kept.setup, Setup(1000, 2_000, 1000, False, False, cells, 500_000, 16_000, 256, True, True, True)
+        )
+        self.assertFalse(case.setup.history)
 
 
 if __name__ == "__main__":

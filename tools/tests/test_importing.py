@@ -12,7 +12,8 @@ from ltm_tools.case import Case, Demand, Link, Setup
 from ltm_tools.commands import from_gmns, from_sumo, from_tntp
 from ltm_tools.errors import Fault
 from ltm_tools.gmns.importing import GmnsOptions, import_gmns, steps_of_gmns
-from ltm_tools.network.importing import NotCarried, check_destinations, destinations_that_fit
+from ltm_tools.network.early import check_destinations, destinations_that_fit
+from ltm_tools.network.importing import NotCarried
 from ltm_tools.network.network import Network, Node, road_of
 from ltm_tools.network.bad_option import BadOption
 from ltm_tools.network.crossings.options import CrossingOptions

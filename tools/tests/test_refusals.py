@@ -107,6 +107,10 @@ class Refusals(FolderTest):
             "slot 9 is past the horizon of the loading that is shown",
         )
         self.assertEqual(
+            why_refused(case, {"do": "totals", "every": 0}, "refused totals BadSlots"),
+            "`every` is the number of slots between two boundaries that are told, and at least 1",
+        )
+        self.assertEqual(
             why_refused(case, {"do": "edit", "edits": [horizon(9)]}, "refused edit 1 CellsOver 54000001"),
             "the case would have 54,000,001 cells, and at most 54,000,000 may be",
         )

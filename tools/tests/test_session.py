@@ -9,6 +9,7 @@ from unittest import mock
 
 from support import BUILT, EXAMPLES, FolderTest, needs_program
 from ltm_tools import edits
+from ltm_tools.case import Case
 from ltm_tools.errors import Fault
 from ltm_tools.loading.delay import Delay, Wait
 from ltm_tools.program import output
@@ -190,6 +191,27 @@ class Made(FolderTest):
         self.assertEqual(delays.links, {"a": Delay(30_500_000, 20_700_000, 1800, 8), "b": Delay(5_400_000, 0, 0, 0)})
         self.assertEqual(delays.nodes, {"n1": Wait(29_000_000, 3200, 10), "n2": Wait(0, 0, 0), "n3": Wait(0, 0, 0)})
 
+    def test_by_so_many_slots(self) -> None:
+        """Worked on examples/spillback from the curves of a and b, and of n1, at the boundaries 6, 12 and 16."""
+        answers = [
+            "version 0 every 6 in 3000 4200 5000 800 2000 2800 out 800 2000 2800 400 1600 2400"
+            " departed 3000 4200 5000 0 0 0 0 0 0",
+            "refused totals BadSlots",
+            "version 0 every 6 in 3000 4200 5000 800 2000 out 800 2000 2800 400 1600 2400 departed 3000 0 0",
+            "version 0 generated 7.000 arrived 2.400 on_links 2.600 waiting 2.000",
+        ]
+        body = ANSWERS.format(answers=answers, status=0).replace("asked.txt", f"{self.folder}/asked.txt")
+        with Session(EXAMPLES / "spillback", program=self.program(body)) as session:
+            told = session.totals(every=6)
+            self.assertEqual(told[:2], (0, 6))
+            self.assertEqual(told.entered, {"a": (3000, 4200, 5000), "b": (800, 2000, 2800)})
+            self.assertEqual(told.left, {"a": (800, 2000, 2800), "b": (400, 1600, 2400)})
+            self.assertEqual(told.departed, {"n1": (3000, 4200, 5000), "n2": (0, 0, 0), "n3": (0, 0, 0)})
+            self.assertRaisesRegex(Refused, "refused totals BadSlots: `every` .* at least 1", session.totals, 0)
+            self.assertRaisesRegex(Fault, "tells of 3, and the case has 2", session.totals, 6)
+            self.assertRaisesRegex(Fault, "has not the parts in, out, departed", session.totals, 6)
+        self.assertEqual((self.folder / "asked.txt").read_text().split("\n")[0], '{"do": "totals", "every": 6}')
+
     def test_names_that_are_words_of_an_answer(self) -> None:
         with self.session("version 2 link in in 0 500 out 0 0", "version 2 node left produced 0 1 left 0 2") as session:
             self.assertEqual(session.curve("in"), (2, (0, 500), (0, 0)))
@@ -275,6 +297,35 @@ class Proved(unittest.TestCase):
             self.assertEqual(session.gap(), (0, 64_900_000, 64_900_000, 0, 4600))
             with self.assertRaisesRegex(Refused, "refused link UnknownName: links.csv has no link nowhere"):
                 session.link("nowhere")
+
+    def test_by_so_many_slots(self) -> None:
+        """What `totals` tells by so many slots is what `curve` and `departures` tell at these boundaries, of each link
+        and node, before and behind edits, and where more slots lie between two boundaries than there are."""
+        for name, link in (("spillback", "b"), ("evening", None), ("merge", None)):
+            case = Case.read(EXAMPLES / name)
+            with Session(EXAMPLES / name, program=BUILT) as session:
+                for version in (0, 1):
+                    curves = {one.name: session.curve(one.name) for one in case.links}
+                    origins = {one: session.departures(one) for one in case.nodes}
+                    last = len(curves[case.links[0].name].entered) - 1
+                    self.assertEqual(last, case.setup.slots + version)
+                    for every in (1, 2, 7, last - 1, last, last + 1, 2**32 - 1):
+                        told = session.totals(every=every)
+                        at = [*range(every, last, every), last]
+                        self.assertEqual(told[:2], (version, every))
+                        self.assertEqual(
+                            told.entered, {one: tuple(curve.entered[k] for k in at) for one, curve in curves.items()}
+                        )
+                        self.assertEqual(
+                            told.left, {one: tuple(curve.left[k] for k in at) for one, curve in curves.items()}
+                        )
+                        self.assertEqual(
+                            told.departed, {one: tuple(curve.left[k] for k in at) for one, curve in origins.items()}
+                        )
+                    if version == 0:
+                        closed = edits.limit(link or case.links[0].name, 1, last, 0)
+                        session.edit(edits.horizon(last + 1), closed)
+                        session.settle()
 
     @needs_program
     def test_all_at_once(self) -> None:

@@ -8,8 +8,9 @@ import commands
 from support import FolderTest
 
 from ltm_tools.case import Case, Demand, Link, Setup, Split
+from ltm_tools.case.leading import strong_parts
 from ltm_tools.case.roads import Roads
-from ltm_tools.demand.passages import Passages, strong_parts
+from ltm_tools.demand.passages import Passages
 from ltm_tools.demand.route_splits import Route, by_links, circles, from_routes, whole_weights
 from ltm_tools.demand.turn_counts import TurnCount, from_turn_counts
 

@@ -101,7 +101,7 @@ def case_with(case: Case, splits: list[Split], most: int | None = None) -> Case:
     """The case with these split rows, and with room for them, or for so many."""
     made = Case.of(case)
     made.splits = splits
-    made.setup = replace(case.setup, rows=max(most or len(made.splits), case.setup.most_split_rows))
-    if made.setup.rows == case.setup.most_split_rows:
+    made.setup = replace(case.setup, rows=max(most or len(made.splits), case.setup.split_rows_asked))
+    if made.setup.rows == case.setup.split_rows_asked:
         made.setup.rows = case.setup.rows
     return made

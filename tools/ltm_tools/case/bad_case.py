@@ -9,6 +9,7 @@ from ..errors import Fault, one_line
 from ..files import shown
 from ..formats import (
     HEADERS,
+    MATRIX,
     MOST_CELLS,
     MOST_CELLS_ASKED,
     MOST_DEMAND_ROWS,
@@ -20,13 +21,16 @@ from ..formats import (
     MOST_LINKS_ASKED,
     MOST_LINKS_NO_HISTORY,
     MOST_OUT,
+    MOST_ROUTED_ROWS,
     MOST_ROWS_ASKED,
     MOST_ROWS_NO_HISTORY,
+    MOST_SHARE,
     MOST_SLOTS,
     MOST_SLOT_UNITS,
     MOST_SPLIT_ROWS,
     MOST_STEP_MS,
     NAME_RULE,
+    PROFILE,
     SETUP,
     SETUP_MORE,
     VEHICLES_RULE,
@@ -50,9 +54,9 @@ SLOT_VEHICLES = MOST_SLOT_UNITS // 1000
 
 
 class BadCase(Fault):
-    """The first fault of a case. `file` is setup, links, demand, splits, signals, limits or whole; `row` counts
-    records, the header being 1, and is 0 for the whole case; `cause` is the program's words; `field` is counted from 1,
-    or None where no one field is at fault; `rule` says what is wrong, and `advice` what to do."""
+    """The first fault of a case. `file` is setup, links, demand, profile, splits, signals, limits or whole; `row`
+    counts records, the header being 1, and is 0 for the whole case; `cause` is the program's words; `field` is counted
+    from 1, or None where no one field is at fault; `rule` says what is wrong, and `advice` what to do."""
 
     def __init__(self, file: str, row: int, cause: str, rule: str, advice: str = "", field: int | None = None) -> None:
         self.file, self.row, self.cause, self.field = file, row, cause, field
@@ -88,7 +92,11 @@ class TooLong(Fault):
 
 def header(file: str, found: list[str] | None) -> BadCase:
     wanted = ",".join(HEADERS[file]) + (
-        f", and behind it each of {', '.join(SETUP_MORE)} or not, in this order" if file == "setup" else ""
+        f", and behind it each of {', '.join(SETUP_MORE)} or not, in this order"
+        if file == "setup"
+        else f", or of a matrix {','.join(MATRIX)}"
+        if file == "demand"
+        else ""
     )
     if found is None:
         return BadCase(
@@ -188,6 +196,7 @@ def setup_range(place: int, name: str, text: str) -> BadCase:
         "moves": "it is 1 where what moves is floored for each turn, and 0 where it is for each destination",
         "carry": "it is 1 where what is left over of a capacity is carried to the next slot, and else 0",
         "history": "it is 0 where a loading keeps no history, and else 1",
+        "routes": "it is 1 where nodes without a split row take their free-flow routes, and else 0",
     }
     advice = (
         {
@@ -354,7 +363,7 @@ def same_ends(file: str, row: int, node: str) -> BadCase:
 
 
 def bad_slots(file: str, row: int, first: int, end: int | None, slots: int) -> BadCase:
-    place = 2 if file in ("signals", "limits") else 3
+    place = 1 if file == "profile" else 2 if file in ("signals", "limits") else 3
     last = f"the horizon has {slots} slot{'s' * (slots != 1)}, numbered 0 to {slots - 1}"
     if end is None:
         return BadCase(
@@ -381,6 +390,38 @@ def bad_slots(file: str, row: int, first: int, end: int | None, slots: int) -> B
         f"slots up to, and without, {end} go past the horizon: {last}",
         f"take a to_slot of at most {slots}, or raise slots in setup.csv",
         place + 1,
+    )
+
+
+def no_slices() -> BadCase:
+    return BadCase(
+        "profile",
+        2,
+        "Rows",
+        "there is no record after the header",
+        f"write one for each slice of the horizon, with {', '.join(PROFILE)}",
+    )
+
+
+def slice_too_early(row: int, first: int, end: int) -> BadCase:
+    return BadCase(
+        "profile",
+        row,
+        "BadSlots",
+        f"the slice begins at slot {first}, and the one above it ends before slot {end}",
+        f"let it begin at slot {end} or later: slices stand in order and apart",
+        1,
+    )
+
+
+def share_range(row: int) -> BadCase:
+    return BadCase(
+        "profile",
+        row,
+        "Range 3",
+        f"a share is 1 to {count_text(MOST_SHARE)}",
+        "take the record out where its slice is to get nothing",
+        3,
     )
 
 
@@ -416,8 +457,17 @@ def too_many_routes(rows: int, setup: Setup) -> BadCase:
         0,
         "TooManyRows",
         f"the routes make {count_text(rows)} rows, and at most {count_text(setup.most_split_rows)} may be",
-        f"{asking('rows', rows, setup, rows)}take fewer destinations, or a smaller network",
+        f"{asking_for_routes(rows, setup)}take fewer destinations, or a smaller network",
     )
+
+
+def asking_for_routes(rows: int, setup: Setup) -> str:
+    """How the setup asks for so many rows of routes, where it may."""
+    if not setup.routes:
+        return asking("rows", rows, setup, rows)
+    if setup.history and rows <= MOST_ROUTED_ROWS:
+        return f"write 0 in the column history of setup.csv, {WITHOUT_HISTORY}; or "
+    return ""
 
 
 def no_split(node: str, destination: str, reason: str, advice: str) -> BadCase:

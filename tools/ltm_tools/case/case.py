@@ -28,11 +28,12 @@ class Case(Rows):
     __slots__ = ()
 
     @classmethod
-    def read(cls, folder: str | os.PathLike[str], *, splits: bool | None = None) -> "Case":
+    def read(cls, folder: str | os.PathLike[str], *, splits: bool | None = None, routes: bool = True) -> "Case":
         """The valid case of a folder, or a Fault with what the program would refuse first. With `splits` True a
         `splits.csv` is wanted, as by `load`; with False it is not looked at, and routes are asked for, as by `routes`;
-        with None it may be missing."""
-        return cls.of(read_case(folder, splits=splits))
+        with None it may be missing. With `routes` False its splits are the records of `splits.csv` alone, also where
+        its nodes take their free-flow routes: of a city these are millions of rows."""
+        return cls.of(read_case(folder, splits=splits, routes=routes))
 
     @classmethod
     def read_network(cls, folder: str | os.PathLike[str]) -> "Case":

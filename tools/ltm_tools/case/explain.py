@@ -91,7 +91,7 @@ def refused(folder: str, line: str, command: str) -> Told:
 
 def read_as_program(folder: str, words: list[str]) -> Case:
     """The case as the program reads it with these words: its first fault is raised."""
-    return Case.read(folder, splits=words[0] != "routes")
+    return Case.read(folder, splits=words[0] != "routes", routes=words[0] == "session")
 
 
 def first_fault(folder: str, words: list[str]) -> Fault | None:
@@ -143,6 +143,8 @@ def file_advice(folder: str, fault: NoFile) -> Told:
         return [*told, f"    there is {near[0]}: file names are in small letters"]
     if fault.file == "splits":
         return [*told, f"    {routes_write(folder)}"]
+    if fault.file == "profile":
+        return [*told, "    demand.csv is a matrix, which is split over the slices of this file: write it"]
     if fault.file in ("signals", "limits"):
         return [*told, f"    setup.csv asks for it: write it, or put 0 in the field {fault.file}"]
     return [
@@ -179,8 +181,7 @@ def place_of(folder: str, fault: BadCase) -> str:
     record = found[fault.row - 1]
     place = f"{path.name}, line {record.line}" + (f" (record {fault.row})" if record.line != fault.row else "")
     if fault.field is not None and fault.field <= len(record.fields):
-        names = found[0].fields if fault.file == "setup" else HEADERS[fault.file]
-        place += f", {names[fault.field - 1]} {shown(record.fields[fault.field - 1])}"
+        place += f", {found[0].fields[fault.field - 1]} {shown(record.fields[fault.field - 1])}"
     elif fault.row > 1:
         place += f", {shown(','.join(record.fields))}"
     return f"{place}: "

@@ -1,12 +1,16 @@
 """What a case has, and what is to be known before it is run."""
 from collections.abc import Mapping
+from dataclasses import replace
+from functools import partial
 
 from ..errors import Fault
 from ..files import records
 from ..formats import (
     ANSWERING,
+    MATRIX,
     MOST_CELLS_ASKED,
     MOST_FILE_BYTES,
+    MOST_ROWS_ASKED,
     MOST_SLOTS,
     clock_text,
     count_text,
@@ -23,8 +27,10 @@ from .fields import fetch, read_header
 from .flooring import flooring_lines, pulse_lines
 from .history import to_have_one
 from .inspect_origins import MOST_TOLD, more_line, origin_lines, pushing_lines
+from .matrix import read_profile
 from .reading import Reader, read_setup
 from .rounding import red_lines, rounding_lines
+from .routes import give_routes, missing_rows
 from .rows import Link
 from .streets import read_streets, street_and_id
 
@@ -54,6 +60,8 @@ def read_loosely(folder: str) -> Case:
             most = reader.case.setup.most_file_bytes if large else MOST_FILE_BYTES
             found = list(records(fetch(folder, file, most)))
             width = read_header(file, found)
+            if file == "demand" and tuple(found[0].fields) == MATRIX:
+                add = partial(reader.add_pair, read_profile(fetch(folder, "profile"), reader.case.setup.slots))
         except Fault:
             if file == "splits":
                 reader.case.splits = None
@@ -67,29 +75,43 @@ def read_loosely(folder: str) -> Case:
     return Case.of(reader.case)
 
 
-def first_refusal(folder: str) -> Fault | None:
-    """What `load` would refuse first."""
+def read_by_load(folder: str) -> tuple[Case | None, Fault | None]:
+    """The case as `load` takes it, or what it would refuse first."""
     try:
-        Case.read(folder, splits=True)
+        return Case.read(folder, splits=True, routes=False), None
     except Fault as fault:
-        return fault
-    return None
+        return None, fault
 
 
 def inspect(folder: str) -> list[str]:
     """The lines that tell of a case."""
-    refusal = first_refusal(folder)
+    taken, refusal = read_by_load(folder)
     told: list[str] = []
     try:
-        case, streets = read_loosely(folder), read_streets(folder)
+        case, streets = taken or read_loosely(folder), read_streets(folder)
     except Fault:
         pass
     else:
-        told = [*size_lines(case), *step_lines(case, streets), *circle_lines(case, streets), *origin_lines(case)]
-        told += [*pushing_lines(case), *closed_lines(case, streets)]
-        told += [*(flooring_lines(case, streets) or pulse_lines(case))]
+        told = [*size_lines(case), *step_lines(case, streets), *way_lines(case, streets)]
         told += [*rounding_lines(case, streets), *red_lines(case, streets)]
     return told + refusal_lines(folder, refusal)
+
+
+def way_lines(case: Case, streets: Mapping[str, str]) -> list[str]:
+    """What is to be known of where traffic is sent; of a case that asks for more routes than one with a history may
+    have, what is seen without these."""
+    if missing_rows(case) > MOST_ROWS_ASKED:
+        return [
+            f"ways        not looked at, as routes are more than {count_text(MOST_ROWS_ASKED)}: loops, links that are"
+            " closed or narrow",
+            *origin_lines(replace(case, splits=None)),
+            *pushing_lines(case),
+            *pulse_lines(case),
+        ]
+    if case.setup.routes and case.splits is not None:
+        give_routes(case)
+    told = [*circle_lines(case, streets), *origin_lines(case), *pushing_lines(case), *closed_lines(case, streets)]
+    return told + (flooring_lines(case, streets) or pulse_lines(case))
 
 
 def refusal_lines(folder: str, refusal: Fault | None) -> list[str]:
@@ -112,11 +134,18 @@ def size_lines(case: Case) -> list[str]:
         f" {counted(len(case.destinations), 'destination')}",
         f"demand      {vehicles_text(sum(row.units for row in demand))} vehicles in {counted(len(demand), 'row')}"
         + span,
-        "splits      "
-        + ("none: ltm routes writes them" if case.splits is None else counted(len(case.standing_splits()), "row")),
+        f"splits      {splits_told(case)}",
         f"horizon     {clock_text(setup.horizon_ms)}, {counted(setup.slots, 'slot')} of {setup.step_ms} ms",
         *(cell_lines(case) if setup.history else no_history_lines(case)),
     ]
+
+
+def splits_told(case: Case) -> str:
+    """How many split rows a case has, and how many more are its routes."""
+    if case.splits is None:
+        return "none: ltm routes writes them"
+    own = counted(len(case.standing_splits()), "row")
+    return f"{own}, and {count_text(missing_rows(case))} of free-flow routes" if case.setup.routes else own
 
 
 def cell_lines(case: Case) -> list[str]:
@@ -141,7 +170,7 @@ def no_history_lines(case: Case) -> list[str]:
     """What a case is that keeps no history, and what would let it keep one."""
     return [
         f"cells       {count_text(case.cells())}, which are not kept",
-        f"history     none: {ANSWERING} answer; {to_have_one(case)}",
+        f"history     none: {ANSWERING} answer. {to_have_one(case)}",
     ]
 
 

@@ -4,7 +4,8 @@ The first fault is raised as NoFile, TooLong or BadCase, which the program would
 """
 import difflib
 import os
-from collections.abc import Callable, Iterable
+from collections.abc import Callable, Iterable, Sequence
+from functools import partial
 
 from ..files import records
 from ..formats import (
@@ -24,6 +25,8 @@ from ..formats import (
 from . import bad_case
 from .bad_case import BadCase, NoFile
 from .fields import check_width, fetch, name_in, read_header, units_in, whole_in
+from .matrix import Slice, is_matrix, parts, read_profile
+from .routes import check_split_rows, give_routes
 from .rows import Demand, Limit, Link, Rows, Setup, Split
 from .valid import check_cells, check_routes, check_splits
 
@@ -46,15 +49,20 @@ def ranges(setup: Setup) -> dict[str, tuple[int, int]]:
         "moves": FLAG,
         "carry": FLAG,
         "history": FLAG,
+        "routes": FLAG,
     }
 
 
-def read_case(folder: str | os.PathLike[str], *, splits: bool | None = None) -> Rows:
+def read_case(folder: str | os.PathLike[str], *, splits: bool | None = None, routes: bool = True) -> Rows:
     """The valid case of a folder, or the first fault. With `splits` True a `splits.csv` is wanted, as by `load`; with
-    False it is not looked at, and routes are asked for, as by `routes`; with None it may be missing."""
+    False it is not looked at, and routes are asked for, as by `routes`; with None it may be missing. With `routes`
+    False its splits are the records of `splits.csv` alone, also where its nodes take their free-flow routes: of a city
+    these are millions of rows."""
     texts = {file: fetch(folder, file) for file in ("setup", "links")}
     most = longest_beside(texts["setup"])
     texts["demand"] = fetch(folder, "demand", most)
+    if is_matrix(texts["demand"]):
+        texts["profile"] = fetch(folder, "profile")
     if splits is not False:
         try:
             texts["splits"] = fetch(folder, "splits", most)
@@ -66,8 +74,13 @@ def read_case(folder: str | os.PathLike[str], *, splits: bool | None = None) -> 
         if splits is not False and getattr(reader.case.setup, file):
             texts[file] = fetch(folder, file)
     for file, add in reader.tables.items():
-        if file in texts:
+        if file == "demand" and "profile" in texts:
+            slices = read_profile(texts["profile"], reader.case.setup.slots)
+            add_rows(file, texts[file], partial(reader.add_pair, slices))
+        elif file in texts:
             add_rows(file, texts[file], add)
+            if file == "splits" and reader.case.setup.routes:
+                check_split_rows(reader.case)
     case = reader.case
     case.splits = case.splits if "splits" in texts else None
     if splits is False:
@@ -75,6 +88,8 @@ def read_case(folder: str | os.PathLike[str], *, splits: bool | None = None) -> 
     elif case.splits is not None:
         check_splits(case)
     check_cells(case)
+    if routes and case.setup.routes and case.splits is not None:
+        give_routes(case)
     return case
 
 
@@ -128,6 +143,7 @@ def read_setup(data: bytes) -> Setup:
         named.get("moves") == 1,
         named.get("carry") == 1,
         named.get("history") != 0,
+        named.get("routes") == 1,
     )
     allowed = ranges(setup)
     for place, (name, value) in enumerate(named.items(), 1):
@@ -207,15 +223,31 @@ class Reader:
         origin, destination = name_in("demand", row, fields, 1), name_in("demand", row, fields, 2)
         first, end = whole_in("demand", row, fields, 3), whole_in("demand", row, fields, 4)
         units = units_in("demand", row, fields, 5)
+        self.check_ends(row, origin, destination)
+        self.check_slots("demand", row, first, end)
+        self.add_destination("demand", row, destination)
+        self.set_demand(row, (origin, destination, first, end), units)
+
+    def add_pair(self, slices: Sequence[Slice], row: int, fields: list[str]) -> None:
+        """Adds a record of a matrix: a row of demand for each slice."""
+        origin, destination = name_in("demand", row, fields, 1), name_in("demand", row, fields, 2)
+        units = units_in("demand", row, fields, 3)
+        self.check_ends(row, origin, destination)
+        self.add_destination("demand", row, destination)
+        for part, of in zip(slices, parts(units, slices)):
+            self.set_demand(row, (origin, destination, part.from_slot, part.to_slot), of)
+
+    def check_ends(self, row: int, origin: str, destination: str) -> None:
+        """Whether vehicles may start at one node for another."""
         self.check_node("demand", row, 1, origin)
         self.check_node("demand", row, 2, destination)
         if not self.out[origin]:
             raise bad_case.no_origin(row, origin)
         if origin == destination:
             raise bad_case.same_ends("demand", row, origin)
-        self.check_slots("demand", row, first, end)
-        self.add_destination("demand", row, destination)
-        key = (origin, destination, first, end)
+
+    def set_demand(self, row: int, key: tuple[str, str, int, int], units: int) -> None:
+        """Sets a row of demand, where there is room."""
         most = self.case.setup.most_demand_rows
         if units and key not in self.demand and len(self.demand) >= most:
             raise bad_case.too_many_rows("demand", row, most, self.case.setup)

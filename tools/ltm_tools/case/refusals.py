@@ -13,7 +13,7 @@ from .reading import check_diagram
 from .rows import Link
 
 Members = Mapping[str, object]
-QUESTIONS = ("link", "time", "queue", "origin", "state", "curve", "departures")
+QUESTIONS = ("totals", "link", "time", "queue", "origin", "state", "curve", "departures")
 
 
 def why_refused(case: Case, command: Members, answer: str) -> str:
@@ -37,6 +37,8 @@ def of_question(case: Case, command: Members, cause: str) -> str:
     """Why a question about the loading is refused."""
     if cause == "UnknownName":
         return unknown(case, command)
+    if command.get("do") == "totals":
+        return "`every` is the number of slots between two boundaries that are told, and at least 1"
     where = "not below" if command.get("do") == "time" else "past"
     return (
         f"slot {command.get('slot')} is {where} the horizon of the loading that is shown" if cause == "BadSlots" else ""

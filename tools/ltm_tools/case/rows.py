@@ -1,8 +1,9 @@
 """The rows of a case: its setup, links, demand, splits and limits, with the numbers that the program makes of them
 (docs/MODEL.md)."""
-from collections.abc import Iterator
+from collections.abc import Iterable, Iterator
 from dataclasses import dataclass, field
 from fractions import Fraction
+from itertools import groupby
 
 from ..formats import (
     MOST_CELLS,
@@ -15,6 +16,7 @@ from ..formats import (
     MOST_LINKS,
     MOST_LINKS_ASKED,
     MOST_LINKS_NO_HISTORY,
+    MOST_ROUTED_ROWS,
     MOST_ROWS_ASKED,
     MOST_ROWS_NO_HISTORY,
     MOST_SLOTS,
@@ -30,7 +32,8 @@ class Setup:
     vehicle; whether there are a `signals.csv` and a `limits.csv`; the most cells, rows of demand and as many of splits,
     links and destinations, each None where the column is not there; whether what moves through a turn is floored
     for the turn, and not for each destination; whether what is left over of a capacity, rounded down, is carried to the
-    next slot; and whether a loading keeps its history, the counts of each destination at every boundary."""
+    next slot; whether a loading keeps its history, the counts of each destination at every boundary; and whether nodes
+    without a split row for a destination take their free-flow routes."""
 
     step_ms: int
     slots: int
@@ -44,6 +47,7 @@ class Setup:
     moves: bool = False
     carry: bool = False
     history: bool = True
+    routes: bool = False
 
     @property
     def horizon_ms(self) -> int:
@@ -62,7 +66,14 @@ class Setup:
 
     @property
     def most_split_rows(self) -> int:
-        """How many split rows the case may have."""
+        """How many split rows the case may have, with those of routes."""
+        if self.routes:
+            return MOST_ROWS_ASKED if self.history else MOST_ROUTED_ROWS
+        return self.split_rows_asked
+
+    @property
+    def split_rows_asked(self) -> int:
+        """How many split rows the case may have where it does not ask for routes."""
         return MOST_SPLIT_ROWS if self.rows is None else self.rows
 
     @property
@@ -192,6 +203,11 @@ class Demand:
     units: int
 
 
+def last_rows(rows: Iterable[Demand]) -> Iterable[Demand]:
+    """Of rows with the same first four fields the last, where the first of them stood."""
+    return {(row.origin, row.destination, row.from_slot, row.to_slot): row for row in rows}.values()
+
+
 @dataclass(slots=True)
 class Split:
     """A row of `splits.csv`: how a node shares what is for a destination over its out-links, from a slot on."""
@@ -233,7 +249,8 @@ class Rows:
     @property
     def destinations(self) -> list[str]:
         """The destinations in the order of their numbers: those of demand first, then those of splits."""
-        return list(dict.fromkeys(row.destination for row in (*self.demand, *(self.splits or ()))))
+        found = dict.fromkeys(row.destination for row in self.demand)
+        return list(found | dict.fromkeys(row.destination for row in self.splits or ()))
 
     def link(self, name: str) -> Link:
         """The link of this name; KeyError where there is none."""
@@ -252,8 +269,10 @@ class Rows:
 
     def standing_demand(self) -> list[Demand]:
         """The demand that counts: of rows with the same first four fields the last, and none with 0 vehicles."""
-        last = {(row.origin, row.destination, row.from_slot, row.to_slot): row for row in self.demand}
-        return [row for row in last.values() if row.units]
+        runs = [(origin, list(rows)) for origin, rows in groupby(self.demand, lambda row: row.origin)]
+        if len({origin for origin, _ in runs}) < len(runs):  # rows of an origin stand apart, and may be the same
+            runs = [("", self.demand)]
+        return [row for _, rows in runs for row in last_rows(rows) if row.units]
 
     def standing_splits(self) -> list[Split]:
         """The split rows that count: of rows with the same first three fields the last."""

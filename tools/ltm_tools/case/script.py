@@ -184,6 +184,8 @@ COMMANDS: dict[str, Members] = {
     "gap": {},
     "settle": {},
 }
+# members that a command may go without
+MAY: dict[str, Members] = {"totals": {"every": WHOLE}}
 LIMIT: Members = {"link": NAME, "from": WHOLE, "to": WHOLE, "vehicles": AMOUNT}
 EDITS: dict[str, Members] = {
     "demand": {"origin": NAME, "destination": NAME, "from": WHOLE, "to": WHOLE, "vehicles": AMOUNT},
@@ -200,14 +202,18 @@ MORE = {"edit": {"edits", "change"}, "totals": {"change"}, "split": {"weights"},
 
 def looked_up(value: object, chooser: str, tables: dict[str, Members]) -> tuple[str, list[str]]:
     """The word of the member that chooses, and the members that nothing looks at, once all that the word asks for are
-    there."""
+    there, and those that it may go without are of their kind."""
     word = wanted(value, chooser, *TEXT)
     assert isinstance(word, str) and isinstance(value, dict)
     if word not in tables:
         raise NotThat(f"the member {chooser} is {value_text(word)}, and it is one of {', '.join(tables)}")
     for name, kind in tables[word].items():
         wanted(value, name, *kind)
-    looked = {chooser, *tables[word]} | MORE.get(word, set())
+    may = MAY.get(word, {}) if tables is COMMANDS else {}
+    for name, kind in may.items():
+        if name in value:
+            wanted(value, name, *kind)
+    looked = {chooser, *tables[word], *may} | MORE.get(word, set())
     return word, [name for name in value if name not in looked]
 
 

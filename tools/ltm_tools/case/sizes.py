@@ -4,7 +4,6 @@ from __future__ import annotations
 
 from ..errors import TooLarge
 from ..formats import (
-    DEMAND,
     MOST_CELLS_ASKED,
     MOST_DEMAND_ROWS,
     MOST_DESTINATIONS,
@@ -15,17 +14,15 @@ from ..formats import (
     MOST_LINKS_ASKED,
     MOST_ROWS_ASKED,
     MOST_SPLIT_ROWS,
-    SPLITS,
     WITHOUT_HISTORY,
     count_text,
     counted,
-    record_text,
 )
 from .cells import ask_for_cells, cells_advice
-from .history import too_large
+from .history import is_city, too_large
 from .rows import Rows
-from .valid import reached, route_rows
-from .writing import demand_records, split_line
+from .valid import leading_of, route_rows
+from .writing import demand_bytes, split_bytes
 
 ROWS_ROUNDED_TO = 1_000
 READ = "are read"
@@ -33,13 +30,16 @@ MOVES_ABOVE = 16
 """With more destinations than these an import lets what moves be floored for each turn."""
 
 
-def ask_for_sizes(case: Rows, moves: bool | None = None, history: bool | None = True) -> list[str]:
+def ask_for_sizes(
+    case: Rows, moves: bool | None = None, history: bool | None = True, routes: bool | None = False
+) -> list[str]:
     """A line for each column by which the setup of a case asks for more than it may have without, for the rule by which
     what moves is floored where one is set, and for the cells. `moves` says the rule, and without it the number of
     destinations does. A case without splits may have as many rows as routes to its destinations need. `history` says
-    whether it keeps a history; where that is left open it does unless it is too large."""
-    setup, told = case.setup, []
-    rows = rows_needed(case)
+    whether it keeps a history; where that is left open it does unless it is too large. `routes` says whether the nodes
+    of a case without splits take their routes, which need not be written then; where that is left open they do if the
+    case keeps no history and is a city."""
+    setup, told, rows = case.setup, [], rows_needed(case)
     if not history:
         over = too_large(case, max(rows))
         setup.history = history is None and not over
@@ -57,7 +57,10 @@ def ask_for_sizes(case: Rows, moves: bool | None = None, history: bool | None = 
             f"{counted(ends, 'destination')}, so the column destinations of setup.csv asks for as many, as"
             f" without it {MOST_DESTINATIONS} may be"
         )
-    told += ask_for_rows(case, *rows)
+    if case.splits is None and (not setup.history and is_city(case, max(rows)) if routes is None else routes):
+        setup.routes, case.splits = True, []
+        told.append(routes_line(case, rows[1], routes is None))
+    told += ask_for_rows(case, rows[0], 0 if setup.routes else rows[1])
     setup.moves = ends > MOVES_ABOVE if moves is None else moves
     if setup.moves and moves is None:
         told.append(
@@ -94,12 +97,24 @@ def session_advice(case: Rows) -> str:
 
 def rows_needed(case: Rows) -> tuple[int, int]:
     """How many rows of demand a case has, and of splits, or of routes to its destinations where it has no splits."""
-    return len(case.standing_demand()), len(case.standing_splits()) if case.splits is not None else route_rows(case)
+    return len(case.standing_demand()), route_rows(case) if case.splits is None else len(case.standing_splits())
 
 
-def demand_bytes(case: Rows) -> int:
-    """The bytes of `demand.csv`."""
-    return sum(len(line) + 1 for line in (record_text(DEMAND), *map(record_text, demand_records(case.demand))))
+def routes_line(case: Rows, rows: int, by_size: bool) -> str:
+    """The line on the column `routes` of a case with so many rows of routes, which was asked for or, by its size, was
+    not; TooLarge where these are more than may be."""
+    most = case.setup.most_split_rows
+    if rows > most:
+        raise TooLarge(
+            f"{count_text(rows)} rows of routes, and at most {count_text(most)} may be: take fewer destinations, or a"
+            " smaller network"
+        )
+    if not by_size:
+        return "the column routes of setup.csv is 1, so nodes take their free-flow routes and splits.csv has no record"
+    return (
+        "as the case is so large, the column routes of setup.csv is 1: nodes take their free-flow routes without a"
+        f" record of splits.csv, of which ltm routes would write {count_text(rows)}; --routes 0 leaves that to it"
+    )
 
 
 def route_bytes(case: Rows) -> int:
@@ -108,13 +123,13 @@ def route_bytes(case: Rows) -> int:
     for link in case.links:
         shortest[link.tail] = min(shortest.get(link.tail, len(link.name)), len(link.name))
     row = {node: len(node) + size + len(",,0,=1\n") for node, size in shortest.items()}
-    return sum(len(end) + row[node] for end, found in reached(case).items() for node in found if node != end)
-
-
-def split_bytes(case: Rows) -> int:
-    """The bytes of `splits.csv` where there are splits."""
-    lines = [record_text(SPLITS), *map(split_line, case.splits)] if case.splits is not None else []
-    return sum(len(line) + 1 for line in lines)
+    leading = leading_of(case)
+    each, rows = leading.by_part(dict.fromkeys(leading.part, 1)), leading.by_part(row)
+    return sum(
+        (leading.sum_of(end, each) - 1) * len(end) + leading.sum_of(end, rows) - row.get(end, 0)
+        for end in case.destinations
+        if end in leading.part
+    )
 
 
 def ask_for_rows(case: Rows, demand: int, splits: int) -> list[str]:

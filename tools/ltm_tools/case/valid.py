@@ -1,15 +1,15 @@
 """What the whole of a case has to meet: a split row wherever traffic may come, or a route, and no more cells than may
 be."""
-from collections.abc import Iterable, Mapping
-
 from . import bad_case
 from .bad_case import BadCase
 from .cells import produced_bytes
+from .leading import Leading
 from .rows import Rows, Split
 
 
 def check_splits(case: Rows) -> None:
-    """Whether everybody who sets out has a way to go on at each node that he may come to, from slot 0 on."""
+    """Whether everybody who sets out has a way to go on at each node that he may come to, from slot 0 on. The rows of
+    routes that a case asks for need not be made: one leads on to nodes with routes."""
     nodes = {node: number for number, node in enumerate(case.nodes)}
     ends = {node: number for number, node in enumerate(case.destinations)}
     splits = case.standing_splits()
@@ -17,19 +17,22 @@ def check_splits(case: Rows) -> None:
     for split in splits:
         pair = split.node, split.destination
         begins[pair] = min(split.from_slot, begins.get(pair, split.from_slot))
-    for pair in sorted(
-        {(row.origin, row.destination) for row in case.standing_demand()},
-        key=lambda pair: (nodes[pair[0]], ends[pair[1]]),
-    ):
-        if pair not in begins:
-            raise no_row(case, pair[0], pair[1], f"vehicles set out from {pair[0]} for {pair[1]}")
+    leading = leading_of(case) if case.setup.routes else None
+
+    def has_row(node: str, end: str) -> bool:
+        return (node, end) in begins or (leading is not None and leading.leads(node, end))
+
+    lost = {(row.origin, row.destination) for row in case.standing_demand() if not has_row(row.origin, row.destination)}
+    if lost:
+        origin, end = min(lost, key=lambda pair: (nodes[pair[0]], ends[pair[1]]))
+        raise no_row(case, origin, end, f"vehicles set out from {origin} for {end}")
     by_node = _out_links(case)
     for split in sorted(splits, key=lambda row: (nodes[row.node], ends[row.destination], row.from_slot)):
         first = begins[split.node, split.destination]
         if first > 0:
             raise late_row(split.node, split.destination, first)
         for name, head in by_node[split.node]:
-            if split.weights.get(name, 0) and head != split.destination and (head, split.destination) not in begins:
+            if split.weights.get(name, 0) and head != split.destination and not has_row(head, split.destination):
                 raise no_row(case, head, split.destination, f"{split_told(split)} over {name} to {head}")
 
 
@@ -75,49 +78,43 @@ def late_row(node: str, destination: str, first: int) -> BadCase:
     )
 
 
-def reached(case: Rows) -> dict[str, set[str]]:
-    """Of each destination the nodes from which links lead there, it among them."""
-    tails: dict[str, list[str]] = {}
+def leading_of(case: Rows) -> Leading:
+    """From which nodes of a case ways lead to others."""
+    heads: dict[str, list[str]] = {node: [] for node in case.nodes}
     for link in case.links:
-        tails.setdefault(link.head, []).append(link.tail)
-    return {destination: leading(tails, destination) for destination in case.destinations}
-
-
-def leading(before: Mapping[str, Iterable[str]], node: str) -> set[str]:
-    """The nodes from which ways lead to one, it among them, by the nodes just before each."""
-    found, left = {node}, [node]
-    while left:
-        for tail in before.get(left.pop(), ()):
-            if tail not in found:
-                found.add(tail)
-                left.append(tail)
-    return found
-
-
-def rows_of_reach(reach: Mapping[str, set[str]]) -> int:
-    """How many rows the routes to destinations make, by the nodes from which links lead there: one at each other
-    node."""
-    return sum(len(found) - 1 for found in reach.values())
+        heads[link.tail].append(link.head)
+    return Leading(heads)
 
 
 def route_rows(case: Rows) -> int:
-    """How many rows `ltm routes` makes of a case."""
-    return rows_of_reach(reached(case))
+    """How many rows `ltm routes` makes of a case: for each destination one at each other node from which links lead
+    there."""
+    return rows_of(case, leading_of(case))
+
+
+def rows_of(case: Rows, leading: Leading) -> int:
+    """The same where it is known from which nodes ways lead to others."""
+    each = leading.by_part(dict.fromkeys(leading.part, 1))
+    return sum(leading.sum_of(end, each) - 1 for end in case.destinations if end in leading.part)
 
 
 def check_routes(case: Rows) -> None:
     """Whether there is a route for all demand, and routes make no more rows than may be."""
-    nodes = {node: number for number, node in enumerate(case.nodes)}
-    reach = reached(case)
-    rows = rows_of_reach(reach)
+    leading = leading_of(case)
+    rows = rows_of(case, leading)
     if rows > case.setup.most_split_rows:
         raise bad_case.too_many_routes(rows, case.setup)
-    pairs = {(row.origin, row.destination) for row in case.standing_demand()}
-    ends = {node: number for number, node in enumerate(reach)}
-    for origin, destination in sorted(pairs, key=lambda pair: (nodes[pair[0]], ends[pair[1]])):
-        if origin not in reach[destination]:
-            reason = f"vehicles set out from {origin} for {destination}, and no links lead there from {origin}"
-            raise bad_case.no_split(origin, destination, reason, "add a link, or take the demand out")
+    lost = {
+        (row.origin, row.destination)
+        for row in case.standing_demand()
+        if not leading.leads(row.origin, row.destination)
+    }
+    if lost:
+        nodes = {node: number for number, node in enumerate(case.nodes)}
+        ends = {node: number for number, node in enumerate(case.destinations)}
+        origin, destination = min(lost, key=lambda pair: (nodes[pair[0]], ends[pair[1]]))
+        reason = f"vehicles set out from {origin} for {destination}, and no links lead there from {origin}"
+        raise bad_case.no_split(origin, destination, reason, "add a link, or take the demand out")
 
 
 def check_cells(case: Rows) -> None:

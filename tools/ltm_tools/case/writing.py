@@ -4,7 +4,17 @@ from collections.abc import Iterable, Iterator, Sequence
 
 from ..errors import Fault
 from ..files import make_folder, write_bytes, write_lines, write_records
-from ..formats import DEMAND, HEADERS, SETUP, SPLITS, is_name, short_vehicles, weights_text
+from ..formats import (
+    DEMAND,
+    HEADERS,
+    SETUP,
+    SPLITS,
+    field_text,
+    is_name,
+    record_text,
+    short_vehicles,
+    weights_text,
+)
 from ..replacing import SETUP_FILE, together
 from .rows import Demand, Limit, Rows, Split
 
@@ -17,6 +27,23 @@ def demand_records(demand: Iterable[Demand]) -> Iterator[Sequence[object]]:
 def split_line(row: Split) -> str:
     """A record of `splits.csv`, without its end."""
     return f"{row.node},{row.destination},{row.from_slot},{weights_text(row.weights)}"
+
+
+def demand_bytes(case: Rows) -> int:
+    """The bytes of `demand.csv`."""
+    names = {row.origin for row in case.demand} | {row.destination for row in case.demand}
+    size = {name: len(field_text(name)) for name in names}
+    whole = len(record_text(DEMAND)) + 1
+    for row in case.demand:
+        numbers = f"{row.from_slot},{row.to_slot},{short_vehicles(row.units)}"
+        whole += size[row.origin] + size[row.destination] + len(numbers) + len(",,\n")
+    return whole
+
+
+def split_bytes(case: Rows) -> int:
+    """The bytes of `splits.csv` where there are splits."""
+    lines = [record_text(SPLITS), *map(split_line, case.splits)] if case.splits is not None else []
+    return sum(len(line) + 1 for line in lines)
 
 
 def write_split_lines(folder: str | os.PathLike[str], lines: Sequence[bytes]) -> None:
@@ -62,6 +89,8 @@ def write_rows(case: Rows, folder: str | os.PathLike[str]) -> None:
         more["carry"] = 1
     if not setup.history:
         more["history"] = 0
+    if setup.routes:
+        more["routes"] = 1
     rows: dict[str, Iterable[Sequence[object]]] = {
         "links": (
             [link.name, link.tail, link.head, link.length_m, link.free_kmh, link.wave_kmh, link.jam_per_km]

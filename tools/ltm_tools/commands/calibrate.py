@@ -149,7 +149,7 @@ def calibrate(args: argparse.Namespace) -> None:
     from ..calibrate.spread import spread_of
 
     start, case = start_of(args.start, args.case), Case.read(args.case)
-    check_history(case, args.case, "a session needs")
+    check_history(case, args.case, "a session")
     placing = Placing.read(args.case, case)
     counts, notes = read_counts(args.counts, reader_of(args, start, placing), placing, args.leave_out_unknown)
     timed = [] if args.times is None else read_times(args.times, start, placing.source, reading_of(args))

@@ -30,7 +30,7 @@ EXAMPLES = """\
 A link is inside if both of its ends are in the box, whose sides count as inside; x and y are as in nodes.csv. With
 --links FILE the links are those that a table names in its column `link`. Vehicles come in where the loading of the
 whole case has them come in, slot by slot, and their destinations are the nodes at which they leave the inside.
-docs/CUT.md says more.
+Of a case without history a copy that keeps one is loaded, where it is small enough for one. docs/CUT.md says more.
 """
 MOST_NAMED = 5
 

@@ -34,7 +34,7 @@ def add_arguments(parser: argparse.ArgumentParser) -> None:
 
 def run(args: argparse.Namespace) -> int:
     types, vehicles, others = vehicles_of(Path(args.vehicles))
-    driver = Driver(args.case, Roadmap(args.case, loaded(args.case, args.curves, args.program), args.seed))
+    driver = Driver(args.case, Roadmap(args.case, loaded(args.case, args.curves, args.program, routes=True), args.seed))
     lines, kept, without, why = [], 0, 0, ""
     for vehicle in vehicles:
         try:

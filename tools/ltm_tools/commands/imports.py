@@ -123,6 +123,14 @@ def add_counting_arguments(group: argparse._ArgumentGroup) -> None:
         " case that is too large for it, 0 keeps none (default: 1 if it is not too large)",
     )
     group.add_argument(
+        "--routes",
+        type=int,
+        choices=(0, 1),
+        help="1: where no traffic is counted or simulated, nodes take their free-flow routes by the column routes of"
+        " setup.csv, and splits.csv has no record; 0: ltm routes writes them (default: 1 without history if"
+        " destinations, links or rows are too many for one)",
+    )
+    group.add_argument(
         "--carry",
         type=int,
         choices=(0, 1),
@@ -346,6 +354,7 @@ def network_options(args: argparse.Namespace) -> dict[str, Any]:
         "entries": args.entries == "links",
         "carry": args.carry == 1,
         "history": None if args.history is None else args.history == 1,
+        "routes": None if args.routes is None else args.routes == 1,
     }
 
 

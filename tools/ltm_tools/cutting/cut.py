@@ -49,7 +49,7 @@ def cut(case: Case, curves: Curves, inside: Inside, every: int) -> Cut:
         [copy(row) for row in case.signals if row.link in inside.names],
         [copy(row) for row in case.limits if row.link in inside.names],
     )
-    return Cut(made, ask_for_sizes(made, setup.moves), round(flows.back))
+    return Cut(made, ask_for_sizes(made, setup.moves, history=None), round(flows.back))
 
 
 def demand_rows(node: str, end: str, flow: Flow) -> list[Demand]:

@@ -16,6 +16,7 @@ from ..formats import MINUTE_MS
 from ..tables import Reading, Stream, whole_names
 from .profiles import Part, by_profile
 from .values import whole_units
+from .volumes import Volumes
 
 TABLE_NAMES = {
     "o_zone_id": (
@@ -90,7 +91,7 @@ MOST_TOLD = 1000  # values of such a field
 class Amounts:
     """Vehicles from a zone to another: exact numbers, in the order of the file, and what stays within a zone."""
 
-    volumes: dict[tuple[str, str], Fraction]
+    volumes: Volumes
     inner: Fraction
     notes: tuple[str, ...]
 
@@ -108,13 +109,13 @@ def read_amounts(path: str | os.PathLike[str], reading: Reading = Reading()) -> 
     zones: tuple[set[str], set[str]] = set(), set()
     volumes = summed(cells, zones)
     whole = [whole_names(names) for names in zones]
-    made = Amounts({}, Fraction(0), (*table.notes, *sorts_told(sorts, path)))
+    made = Amounts(Volumes(), Fraction(0), (*table.notes, *sorts_told(sorts, path)))
     for pair, volume in volumes.items():
         origin, destination = (names.get(zone, zone) for names, zone in zip(whole, pair))
         if origin == destination:
             made.inner += volume
         else:
-            made.volumes[origin, destination] = made.volumes.get((origin, destination), Fraction(0)) + volume
+            made.volumes.add(origin, destination, volume.numerator, volume.denominator)
     return made
 
 

@@ -9,46 +9,9 @@ from __future__ import annotations
 
 from collections.abc import Iterable, Mapping
 
+from ..case.leading import strong_parts
 from ..case.roads import Roads
 from ..errors import Fault
-
-
-def strong_parts(nodes: Iterable[str], after: Mapping[str, Iterable[str]]) -> list[set[str]]:
-    """The sets of two nodes and more in which each leads to each other (Tarjan 1972, without recursion)."""
-    number: dict[str, int] = {}
-    low: dict[str, int] = {}
-    stack: list[str] = []
-    on_stack: set[str] = set()
-    found = []
-    for root in nodes:
-        if root in number:
-            continue
-        number[root] = low[root] = len(number)
-        stack.append(root)
-        on_stack.add(root)
-        work = [(root, iter(after.get(root, ())))]
-        while work:
-            node, rest = work[-1]
-            following = next(rest, None)
-            if following is None:
-                work.pop()
-                if work:
-                    low[work[-1][0]] = min(low[work[-1][0]], low[node])
-                if low[node] == number[node]:
-                    part = set()
-                    while node not in part:
-                        part.add(stack.pop())
-                    on_stack -= part
-                    if len(part) > 1:
-                        found.append(part)
-            elif following not in number:
-                number[following] = low[following] = len(number)
-                stack.append(following)
-                on_stack.add(following)
-                work.append((following, iter(after.get(following, ()))))
-            elif following in on_stack:
-                low[node] = min(low[node], number[following])
-    return found
 
 
 class Passages:

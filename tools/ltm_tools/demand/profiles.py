@@ -3,9 +3,10 @@ the last thousandth."""
 from __future__ import annotations
 
 import os
-from collections.abc import Mapping, Sequence
+from collections.abc import Iterable, Mapping, Sequence
 from dataclasses import dataclass
 from fractions import Fraction
+from math import lcm
 
 from ..case import Demand, Setup
 from ..errors import Fault
@@ -30,35 +31,58 @@ class Part:
     share: Fraction
 
 
+class Shares:
+    """Shares by which amounts are cut, as whole numbers."""
+
+    def __init__(self, shares: Sequence[Fraction]) -> None:
+        per = lcm(*(share.denominator for share in shares))
+        self.shares = [share.numerator * (per // share.denominator) for share in shares]
+        self.whole = sum(self.shares)
+        if self.whole <= 0:
+            raise Fault("a profile's shares sum to 0; give at least one share above 0")
+
+    def cut(self, units: int) -> list[int]:
+        """An amount cut into whole parts that add up to it; the parts most cut off get what is left, the first
+        first."""
+        parts = [units * share // self.whole for share in self.shares]
+        left = units - sum(parts)
+        if left:
+            order = sorted(range(len(parts)), key=lambda place: (-(units * self.shares[place] % self.whole), place))
+            for place in order[:left]:
+                parts[place] += 1
+        return parts
+
+
 def cut_by_shares(units: int, shares: Sequence[Fraction]) -> list[int]:
     """An amount cut by shares into whole parts that add up to it; the parts most cut off get what is left, the first
     first."""
-    whole = sum(shares, Fraction(0))
-    if whole <= 0:
-        raise Fault("a profile's shares sum to 0; give at least one share above 0")
-    exact = [units * share / whole for share in shares]
-    parts = [amount.numerator // amount.denominator for amount in exact]
-    order = sorted(range(len(parts)), key=lambda place: (parts[place] - exact[place], place))
-    for place in order[: units - sum(parts)]:
-        parts[place] += 1
-    return parts
+    return Shares(shares).cut(units)
 
 
 def by_profile(
     amounts: Mapping[tuple[str, str], int], parts: Sequence[Part], most: int = MOST_DEMAND_ROWS
 ) -> list[Demand]:
     """Demand rows of amounts (thousandths) from an origin to a destination, spread over a profile, at most so many."""
+    pairs = sum(units > 0 for units in amounts.values())
+    return spread(((*ends, units) for ends, units in amounts.items()), pairs, parts, most)
+
+
+def spread(amounts: Iterable[tuple[str, str, int]], pairs: int, parts: Sequence[Part], most: int) -> list[Demand]:
+    """The same of an origin, a destination and an amount each, no two of the same ends, so many of them above 0."""
     if not parts:
         raise Fault("a profile without parts; give at least one")
-    pairs = sum(units > 0 for units in amounts.values())
     if pairs > most:
         raise too_many(f"over {most}", pairs, len(parts), most)
+    shares: Shares | None = None
     rows = []
-    for (origin, destination), units in amounts.items():
-        for part, share in zip(parts, cut_by_shares(units, [part.share for part in parts])):
+    for origin, destination, units in amounts:
+        shares = shares or Shares([part.share for part in parts])
+        for part, share in zip(parts, shares.cut(units)):
             if share:
                 rows.append(Demand(origin, destination, part.from_slot, part.to_slot, share))
-    return within_limits(merged_rows(rows), len(parts), most)
+    if len({(part.from_slot, part.to_slot) for part in parts}) < len(parts):
+        rows = merged_rows(rows)
+    return within_limits(rows, len(parts), most)
 
 
 def read_profile(

@@ -9,9 +9,10 @@ from math import gcd
 from typing import NamedTuple
 
 from ..case import Demand, Link, Setup, Split
+from ..case.leading import strong_parts
 from ..case.roads import Roads
 from ..formats import HOUR_MS, UNITS, WHOLE_BELOW
-from .passages import Passages, strong_parts
+from .passages import Passages
 from .trips import Trip, by_trips
 
 MOST_WEIGHT = WHOLE_BELOW - 1

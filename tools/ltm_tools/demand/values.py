@@ -1,12 +1,12 @@
 """Values in the fields of tables of demand: clock times, and numbers of vehicles in thousandths."""
 from __future__ import annotations
 
-from collections.abc import Iterable, Iterator
 from fractions import Fraction
 
 from ..errors import Fault
 from ..files import Row
 from ..formats import CLOCK, LONGEST_SECONDS, MINUTE_MS, MOST_UNITS, clock_ms, count_text, whole_of
+from .volumes import too_many_vehicles
 
 
 def moment_ms(row: Row, field: str) -> int:
@@ -27,18 +27,8 @@ def whole_units(volume: Fraction, what: str) -> int:
     """Vehicles in the nearest thousandths."""
     units = (2000 * volume.numerator + volume.denominator) // (2 * volume.denominator)
     if not 0 <= units <= MOST_UNITS:
-        raise Fault(f"{what}: {float(volume):g} vehicles, and 0 to 1000000 are allowed")
+        raise too_many_vehicles(volume, what)
     return units
-
-
-def summed_units(volumes: Iterable[Fraction]) -> Iterator[int]:
-    """Vehicles in thousandths, rounded so that those up to each one are the nearest to their sum."""
-    whole, given = Fraction(0), 0
-    for volume in volumes:
-        whole += volume
-        due = (2000 * whole.numerator + whole.denominator) // (2 * whole.denominator)
-        yield due - given
-        given = due
 
 
 def quarter_before(time_ms: int) -> int:

@@ -15,16 +15,18 @@ from ..network.crossings.sizes import links_told
 from ..network.crossings.sources import with_turns
 from ..network.crossings.yielding import Yielding, limit_yields
 from ..demand.matrices import Amounts, read_amounts
-from ..demand.values import whole_units
+from ..demand.volumes import Volumes
 from ..files import existing
 from ..network.entries import without
 from ..network.imported import Imported
-from ..network.importing import NotCarried, carried, check_ends, destinations_that_fit, least_routes
+from ..network.early import check_ends, check_links
+from ..network.importing import NotCarried, carried
+from ..network.least_routes import least_routes
 from ..network.network import Network
 from ..network.bad_option import BadOption
-from ..network.od_case import OdOptions, case_of, inner_told, departure_parts, size_told
+from ..network.od_case import OdOptions, case_of, check_rows, check_times, inner_told, departure_parts, size_told
 from ..network.od_entries import enter_zones
-from ..network.od_nodes import by_node, fewer_ends, pairs_of
+from ..network.od_nodes import by_node, check_pairs, fewer_ends, pairs_of
 from ..network.placing import Map, places_of
 from ..network.steps import steps_table
 from ..network.street_names import street_names
@@ -63,7 +65,7 @@ class Asked:
 
     read: Read
     amounts: Amounts
-    volumes: dict[tuple[str, str], Fraction]
+    volumes: Volumes
     turned: TurnedNetwork | None = None
     entries: frozenset[str] = frozenset()
     """The links by which trips come to nodes that others drive over."""
@@ -81,13 +83,9 @@ def import_gmns(folder: str | os.PathLike[str], options: GmnsOptions = GmnsOptio
     asked = read_all(Path(folder), options, options.crossings.turns != "none")
     read, raw = asked.read, asked.raw
     check_ends(asked.volumes, options)
-    routes = (
-        least_routes(raw, [(*ends, whole_units(volume, "demand")) for ends, volume in asked.volumes.items()])
-        if options.fit
-        else []
-    )
+    check_rows(asked.volumes, options)
     try:
-        made = carried(raw, options, routes)
+        made = carried(raw, options, lambda: least_routes(raw, asked.volumes.units("demand")))
     except NotCarried as fault:
         fault.advice += fewer_turns(asked, len(raw.roads), True)
         raise
@@ -95,7 +93,8 @@ def import_gmns(folder: str | os.PathLike[str], options: GmnsOptions = GmnsOptio
     case, last = case_of(made, asked.volumes, options, parts)
     limit_yields(case, made.source, asked.yields, options.crossings.slice_minutes)
     turns = None if asked.turned is None else turns_of_case(made, asked.turned, case, options.crossings, read)
-    sizes = [*ask_for_sizes(case, options.moves, options.history), *fewer_turns(asked, len(case.links), False)]
+    sizes = ask_for_sizes(case, options.moves, options.history, options.routes)
+    sizes += fewer_turns(asked, len(case.links), False)
     places, lost = places_of(made, Map(crs=read.units.crs or (DEGREES if read.units.places == "degrees" else None)))
     told = [
         *read.guesses,
@@ -103,7 +102,7 @@ def import_gmns(folder: str | os.PathLike[str], options: GmnsOptions = GmnsOptio
         *inner_told(asked.amounts.inner),
         *read.told(),
         *asked.amounts.notes,
-        *changes_told(made, routes, streets=read.streets),
+        *changes_told(made, made.routes, streets=read.streets),
         *lost,
         *sizes,
     ]
@@ -133,11 +132,12 @@ def fewer_turns(asked: Asked, links: int, whole: bool) -> list[str]:
 def steps_of_gmns(folder: str | os.PathLike[str], options: GmnsOptions = GmnsOptions()) -> list[str]:
     """What a fit of the network in a folder to each of some steps would change, a line each."""
     asked = read_all(Path(folder), options)
-    return steps_table(asked.raw, horizon_ms=options.horizon * MINUTE_MS, ends={end for _, end in asked.volumes})
+    return steps_table(asked.raw, horizon_ms=options.horizon * MINUTE_MS, ends=set(asked.volumes.end_names()))
 
 
 def read_all(folder: Path, options: GmnsOptions, turning: bool = False) -> Asked:
     """The network and its demand; with `turning` its crossings have turns where that is asked for."""
+    check_times(options)
     read = read_gmns(
         folder,
         FieldUnits(
@@ -154,18 +154,18 @@ def read_all(folder: Path, options: GmnsOptions, turning: bool = False) -> Asked
     )
     if read.faults:
         raise NotCarried(read.faults)
+    check_links(read.network, options, folder)
     place_zones(read, options.zone_nodes)
     amounts = amounts_of(folder, options)
     if options.destinations is None and not options.leave_out_unreached:
-        most = destinations_that_fit(read.network, options.horizon * MINUTE_MS, options.fit or options.step)
-        check_ends(pairs_of(read.network, amounts), options, most)  # before it is seen where ways lead
+        check_pairs(read.network, pairs_of(read.network, amounts), options, not turning)
     ends = trip_ends(read.network, amounts)
     turned, yields = turn(folder, read, *ends, amounts, options) if turning else (None, [])
     entries = enter_zones(read.network, amounts, options, read.notes) if options.entries else frozenset()
     volumes = by_node(read.network, amounts, options.leave_out_unreached, read.notes)
     if options.destinations is not None and volumes:
         volumes = fewer_ends(read.network, volumes, options.destinations, read.notes)
-    read.network.ends = {node for ends in volumes for node in ends}
+    read.network.ends = set(volumes.names)
     return Asked(read, amounts, volumes, turned, entries, yields)
 
 
@@ -184,7 +184,7 @@ def amounts_of(folder: Path, options: GmnsOptions) -> Amounts:
         path = existing(options.demand)
     elif not path.exists():
         return Amounts(
-            {},
+            Volumes(),
             Fraction(0),
             ("there is no demand.csv: demand.csv of the case has no rows; ltm-tools demand gives it some",),
         )

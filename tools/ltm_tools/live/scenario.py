@@ -11,6 +11,7 @@ from dataclasses import replace
 from itertools import count
 
 from ..case import Link
+from ..case.history import check_history
 from ..case.source import approach_heads, approaches_of
 from ..case.streets import read_streets
 from ..errors import Fault
@@ -43,6 +44,7 @@ class Scenario:
         self.folder, self.program, self.start = os.fspath(folder), program, start
         self.open = OpenCase(folder, program, most_lines=most_lines, spare=min(ROOM, most_lines // 4))
         self.case = self.open.case
+        check_history(self.case, self.folder, "the live map")
         self.slots, self.step = self.case.setup.slots, self.case.setup.step_ms
         self.links = {link.name: place for place, link in enumerate(self.case.links)}
         self.nodes = {node: place for place, node in enumerate(self.case.nodes)}

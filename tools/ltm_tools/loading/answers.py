@@ -32,6 +32,18 @@ class Totals(NamedTuple):
     waiting: int
 
 
+class Sampled(NamedTuple):
+    """All links and origins by the boundaries `every`, 2 `every`, .. and by the last, in thousandths of a vehicle: of
+    each link, in the order of `links.csv`, what has entered and left it; of each node, in order of number, what has
+    left its origin, 0 where it is no origin."""
+
+    version: int
+    every: int
+    entered: Mapping[str, Sequence[int]]
+    left: Mapping[str, Sequence[int]]
+    departed: Mapping[str, Sequence[int]]
+
+
 class LinkTotals(NamedTuple):
     """What has entered and left a link by the end of the horizon, in thousandths of a vehicle."""
 
@@ -142,6 +154,15 @@ def totals_of(words: Sequence[str]) -> Totals:
     return Totals(int(words[1]), *(told_units(words[place]) for place in (3, 5, 7, 9)))
 
 
+def sampled_of(words: Sequence[str], names: Names) -> Sampled:
+    """The answer to `totals` with a member `every`."""
+    entered, left, departed = answer_parts(words, 4, "in", "out", "departed")
+    links, nodes = names
+    return Sampled(
+        int(words[1]), int(words[3]), by_name(links, entered), by_name(links, left), by_name(nodes, departed)
+    )
+
+
 def state_of(words: Sequence[str], names: Names) -> State:
     """The answer to `state`."""
     entered, left, queue, waiting = (
@@ -217,6 +238,12 @@ def named(names: Sequence[str], values: Sequence[Value]) -> dict[str, Value]:
             f" the session began with"
         )
     return dict(zip(names, values))
+
+
+def by_name(names: Sequence[str], words: Sequence[str]) -> dict[str, tuple[int, ...]]:
+    """As many numbers for each name as for any other; a Fault where they are not as many."""
+    many = max(1, len(words) // max(1, len(names)))
+    return named(names, [tuple(map(int, group)) for group in in_groups(words, many)])
 
 
 def in_groups(values: Sequence[str], size: int) -> list[Sequence[str]]:

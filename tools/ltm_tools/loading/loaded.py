@@ -2,16 +2,18 @@
 from __future__ import annotations
 
 import os
+import tempfile
 from typing import NamedTuple
 
 from .. import program
 from ..case import Case
-from ..case.history import check_history
+from ..case.history import check_history, keeping_one
+from ..case.writing import write_rows
 from ..errors import Fault
 from ..formats import clock_text
 from . import delay
 from .curves import Curves
-from .told import ToldCurves, loading_of_totals, loading_told
+from .told import CURVE_OF_EACH, ToldCurves, loading_of_totals, loading_told
 
 
 class LoadedCase(NamedTuple):
@@ -32,10 +34,10 @@ class LoadedCase(NamedTuple):
         return boundary
 
 
-def loaded(folder: str, curves: str | None, named: str | None) -> LoadedCase:
+def loaded(folder: str, curves: str | None, named: str | None, routes: bool = False) -> LoadedCase:
     """The case of a folder, and its curves: of this file, else made by the program, else of `curves.csv` in the folder
-    where the program is nowhere found."""
-    case = Case.read(folder)
+    where the program is nowhere found. Rows of free-flow routes that the case asks for are made with `routes` alone."""
+    case = Case.read(folder, routes=routes)
     step, boundaries = case.setup.step_ms, case.setup.slots + 1
     if curves is not None:
         found = Curves.read(curves, step, boundaries)
@@ -53,12 +55,33 @@ def loaded(folder: str, curves: str | None, named: str | None) -> LoadedCase:
 
 
 def loaded_by_destination(folder: str, curves: str | None, named: str | None) -> LoadedCase:
-    """The same for who asks for the curves of each destination, and so needs no sums beside them."""
+    """The same for who asks for the curves of each destination, and so needs no sums beside them. Of a case that keeps
+    no history they are those of a copy that does; NoHistory where it is too large for one. Rows of free-flow routes are
+    made."""
     if curves is not None:
-        return loaded(folder, curves, named)
+        return loaded(folder, curves, named, routes=True)
     case = Case.read(folder)
-    check_history(case, folder, "curves by destination need")
-    return LoadedCase(case, of_case(case, made(folder, named, case.setup.step_ms, case.setup.slots + 1)))
+    made_of = made_of_a_copy if not case.setup.history else made_of_itself
+    return LoadedCase(case, of_case(case, made_of(case, folder, named)))
+
+
+def made_of_itself(case: Case, folder: str, named: str | None) -> Curves:
+    """The curves of a case in its folder."""
+    return made(folder, named, case.setup.step_ms, case.setup.slots + 1)
+
+
+def made_of_a_copy(case: Case, folder: str, named: str | None) -> Curves:
+    """The curves of a copy of a case that keeps a history, as the case does not; NoHistory where it is too large."""
+    kept = keeping_one(case)
+    if kept is None:
+        check_history(case, folder, CURVE_OF_EACH)
+        raise AssertionError("it keeps a history")
+    with tempfile.TemporaryDirectory(prefix="ltm_kept_") as copy:
+        write_rows(kept, copy)
+        try:
+            return made(copy, named, case.setup.step_ms, case.setup.slots + 1)
+        except Fault as fault:
+            raise Fault(f"{str(fault).replace(copy, folder)}, in a copy that keeps its history") from None
 
 
 def made_by_program(case: Case, folder: str, named: str | None) -> LoadedCase:
@@ -68,7 +91,7 @@ def made_by_program(case: Case, folder: str, named: str | None) -> LoadedCase:
         return LoadedCase(case, loading_of_totals(case, folder, named))
 
     def make() -> Curves:
-        return of_case(case, made(folder, named, case.setup.step_ms, case.setup.slots + 1))
+        return of_case(case, made_of_itself(case, folder, named))
 
     return LoadedCase(case, loading_told(case, folder, named, make) or make())
 

@@ -13,6 +13,7 @@ from dataclasses import dataclass
 from ..case import Case, Limit, Link
 from ..case.circles import circle_in
 from ..case.closed import by_link, open_slots
+from ..case.routes import missing_routes
 from ..case.streets import street_and_id
 from ..formats import MINUTE_MS, UNITS, clock_text, count_text, counted, told_units
 from . import delay
@@ -102,7 +103,7 @@ def circle_of(still: Iterable[Still], case: Case) -> list[str]:
     """Full links that wait for one another in a circle, if there is one: each is sent on into the next."""
     full = {link.name for link in still if link.full}
     sent: dict[str, set[str]] = {}
-    for row in case.splits or ():
+    for row in (*(case.splits or ()), *(missing_routes(case) if case.setup.routes else ())):
         sent.setdefault(row.node, set()).update(name for name, weight in row.weights.items() if weight)
     turns: dict[str, dict[str, str]] = {}
     for link in case.links:

@@ -21,6 +21,7 @@ from .totals import written_totals
 if TYPE_CHECKING:
     import pandas
 
+CURVE_OF_EACH = "a curve for each destination, which ltm totals does not tell,"  # which needs a history
 Program = str | os.PathLike[str] | None
 Texts = Mapping[tuple[str, str], bytes]
 
@@ -106,7 +107,7 @@ def loading_of_totals(case: Case, folder: str, program: Program) -> ToldCurves:
     destination is told that there is no history."""
 
     def make() -> Curves:
-        check_history(case, folder, "curves by destination need")
+        check_history(case, folder, CURVE_OF_EACH)
         raise AssertionError("it keeps no history")
 
     sums: dict[tuple[str, str], bytes] = {}

@@ -12,7 +12,9 @@ from __future__ import annotations
 from collections.abc import Iterable, Sequence
 from dataclasses import dataclass
 from fractions import Fraction
+from operator import mul
 
+from .exact import exact_sum
 from .fit import FittedNetwork, metres_text
 from .fitting import FitChange, stretched
 
@@ -34,7 +36,7 @@ class Used:
     @property
     def time(self) -> Fraction:
         """The time that it took in the source."""
-        return sum(self.times, Fraction(0))
+        return exact_sum(self.times)
 
 
 def balance(fit: FittedNetwork, routes: Iterable[Used]) -> None:
@@ -43,12 +45,14 @@ def balance(fit: FittedNetwork, routes: Iterable[Used]) -> None:
         (route for route in routes if route.roads and any(route.times) and route.units),
         key=lambda route: (-route.units, route.roads),
     )[:MOST_ROUTES]
+    times = [route.time for route in chosen]
     off = [
-        float(sum((fit.network.roads[name].time for name in route.roads), Fraction(0)) - route.time) for route in chosen
+        float(exact_sum(fit.network.roads[name].time for name in route.roads) - time)
+        for route, time in zip(chosen, times)
     ]
     if not any(abs(error) > 1 for error in off):
         return
-    for name, change in search(fit, chosen, off).items():
+    for name, change in search(fit, chosen, [float(time) for time in times], off).items():
         road = fit.network.roads[name]
         made = stretched(road, Fraction(round(change)))
         if made.time > 0 and not fit.short(made):
@@ -71,26 +75,29 @@ def bounds(fit: FittedNetwork, name: str) -> tuple[float, float]:
     return max(-MOST_SHARE * float(road.time), min(0.0, room)), MOST_SHARE * float(road.time)
 
 
-def search(fit: FittedNetwork, routes: Sequence[Used], off: list[float]) -> dict[str, float]:
-    """The change of each road's time in ms, a road at a time while all others stay."""
+def search(fit: FittedNetwork, routes: Sequence[Used], took: Sequence[float], off: list[float]) -> dict[str, float]:
+    """The change of each road's time in ms, a road at a time while all others stay; by the times that routes took in
+    the source, and what each is off by now."""
     users: dict[str, list[int]] = {}
     for number, route in enumerate(routes):
         for name in dict.fromkeys(route.roads):  # in order, so that each run gives the same
             users.setdefault(name, []).append(number)
     whole = sum(route.units for route in routes)
-    weights = [route.units / whole / float(route.time) ** 2 for route in routes]
+    weights = [route.units / whole / time**2 for route, time in zip(routes, took)]
     times = {name: float(fit.network.roads[name].time) for name in users}
     limits = {name: bounds(fit, name) for name in users}
     holds = {
-        name: HOLD * sum(weights[number] * float(routes[number].time) ** 2 for number in numbers) / times[name] ** 2
+        name: HOLD * sum(weights[number] * took[number] ** 2 for number in numbers) / times[name] ** 2
         for name, numbers in users.items()
     }
+    own = {name: [weights[number] for number in numbers] for name, numbers in users.items()}
+    whole_weights = {name: sum(of) for name, of in own.items()}
     changes = dict.fromkeys(users, 0.0)
     for _ in range(ROUNDS):
         most = 0.0
         for name, numbers in users.items():
-            pull = sum(weights[number] * off[number] for number in numbers) + holds[name] * changes[name]
-            wanted = changes[name] - pull / (sum(weights[number] for number in numbers) + holds[name])
+            pull = sum(map(mul, own[name], map(off.__getitem__, numbers))) + holds[name] * changes[name]
+            wanted = changes[name] - pull / (whole_weights[name] + holds[name])
             made = min(max(wanted, limits[name][0]), limits[name][1])
             moved = made - changes[name]
             if moved:

@@ -2,32 +2,24 @@
 share."""
 from __future__ import annotations
 
-from collections.abc import Collection, Iterable, Iterator, Sequence
-from dataclasses import dataclass, replace
-from fractions import Fraction
+from collections.abc import Callable, Iterable, Iterator, Sequence
+from dataclasses import dataclass, field, replace
 
-from ..case import Case, Demand, Link, Setup
+from ..case import Link
 from ..case.roads import Roads
 from ..case.source import Source, SourceLink
-from ..errors import Fault, TooLarge, one_line
-from ..formats import (
-    MINUTE_MS,
-    MOST_CELLS_ASKED,
-    MOST_DESTINATIONS_ASKED,
-    MOST_SLOTS,
-    MOST_SLOT_UNITS,
-    MOST_STEP_MS,
-    NAME_RULE,
-    count_text,
-)
+from ..errors import Fault, one_line
+from ..formats import MINUTE_MS, MOST_SLOTS, MOST_SLOT_UNITS, MOST_STEP_MS, NAME_RULE
 from .arms import ARMS
-from .balance import MOST_ROUTES, Used, balance
+from .balance import Used, balance
 from .fit import FittedNetwork
 from .names import names_for
-from .network import Network, diagram_of, least_route, least_times
+from .network import Network, diagram_of
 from .options import Options
 from .steps import fit_advice
 
+Driven = tuple[tuple[str, ...], int]
+"""A route by roads of the source, and how many drive it."""
 MOST_TOLD = 20
 """The most lines about faults of one kind."""
 
@@ -69,6 +61,8 @@ class Carried:
     source: Source
     link_names: dict[str, str]
     node_names: dict[str, str]
+    routes: list[Driven] = field(default_factory=list)
+    """The used routes by which a fit was evened out."""
 
     @property
     def roads(self) -> Roads:
@@ -80,15 +74,13 @@ class Carried:
         return self.source.nodes[name]
 
 
-def carried(raw: Network, options: Options, routes: Iterable[tuple[tuple[str, ...], int]] = ()) -> Carried:
+def carried(raw: Network, options: Options, routes: Callable[[], Iterable[Driven]] = tuple) -> Carried:
     """The network as a case can carry it; NotCarried with all that is wrong, and what to do. With a fit the times of
-    used routes, told by roads of the source and how many drive them, are kept as near as may be."""
+    used routes are kept as near as may be; they are asked for once it is seen that the network can be carried."""
     if not raw.roads:
         raise Fault("the network has no links")
     step, fit = (options.fit, FittedNetwork(raw, options.fit)) if options.fit else (step_of(raw, options), None)
     network = fit.run() if fit else raw
-    if fit and options.balance:
-        balance(fit, used_routes(fit, routes))
     faults = arm_faults(network)
     if len(network.roads) > options.most_links:
         faults.append(
@@ -105,14 +97,16 @@ def carried(raw: Network, options: Options, routes: Iterable[tuple[tuple[str, ..
                 *(["give --rename, which makes names and lists both"] if named else []),
             ],
         )
+    driven = list(routes()) if fit else []
+    if fit and options.balance:
+        balance(fit, used_routes(fit, driven))
     links = []
     for road in network.roads.values():
         link = diagram_of(road, step if fit else None)
         link = replace(link, name=link_names[road.name], tail=node_names[road.tail], head=node_names[road.head])
         links.append(kept_to_a_slot(link, step) if options.carry else link)
-    return Carried(
-        network, raw, links, step, fit, source_of(raw, network, fit, link_names, node_names), link_names, node_names
-    )
+    source = source_of(raw, network, fit, link_names, node_names)
+    return Carried(network, raw, links, step, fit, source, link_names, node_names, driven)
 
 
 def kept_to_a_slot(link: Link, step: int) -> Link:
@@ -123,7 +117,7 @@ def kept_to_a_slot(link: Link, step: int) -> Link:
     return link
 
 
-def used_routes(fit: FittedNetwork, routes: Iterable[tuple[tuple[str, ...], int]]) -> Iterator[Used]:
+def used_routes(fit: FittedNetwork, routes: Iterable[Driven]) -> Iterator[Used]:
     """Routes over the roads of a fitted network."""
     same = {name: name for name in (*fit.network.roads, *fit.network.nodes)}
     source = source_of(fit.raw, fit.network, fit, same, same)
@@ -189,21 +183,6 @@ def step_of(raw: Network, options: Options) -> int:
     return options.step or max(number for number in range(1, longest + 1) if MINUTE_MS % number == 0)
 
 
-def least_routes(
-    raw: Network, pairs: Iterable[tuple[str, str, int]], count: int = MOST_ROUTES
-) -> list[tuple[tuple[str, ...], int]]:
-    """The least routes of the pairs of nodes with most demand."""
-    times: dict[str, dict[str, Fraction | int]] = {}
-    routes = []
-    for origin, destination, units in sorted(pairs, key=lambda pair: -pair[2])[:count]:
-        if destination not in times:
-            times[destination] = least_times(raw, destination)
-        route = least_route(raw, origin, destination, times[destination])
-        if route:
-            routes.append((tuple(route), units))
-    return routes
-
-
 def horizon_slots(horizon_ms: int, step: int) -> int:
     """The slots of a horizon; a Fault where they are too many."""
     slots = -(-horizon_ms // step)
@@ -214,44 +193,3 @@ def horizon_slots(horizon_ms: int, step: int) -> int:
             f" take --horizon {MOST_SLOTS * step // MINUTE_MS}, or a longer step by --fit"
         )
     return max(1, slots)
-
-
-def destinations_that_fit(
-    raw: Network, horizon_ms: int, step: int | None, cells: int = MOST_CELLS_ASKED, more: int = 0
-) -> int:
-    """How many destinations a case of this network may have, by its cells, with so many links more; as many as any case
-    may have, where the step is not known yet. Where roads are merged, more fit; where turns become links, fewer do."""
-    if step is None:
-        return MOST_DESTINATIONS_ASKED
-    setup = Setup(step, min(MOST_SLOTS, -(-horizon_ms // step)), 1)
-    links = [Link(road.name, road.tail, road.head, 1, 1, 1, 1) for road in raw.roads.values()]
-    links += links[:1] * more
-    one, two = (Case(setup, links, [Demand("", str(end), 0, 1, 1) for end in range(count)]).cells() for count in (1, 2))
-    return max(1, min(MOST_DESTINATIONS_ASKED, (cells - one) // (two - one) + 1))
-
-
-def check_destinations(nodes: Iterable[str], options: Options, fitting: int | None = None) -> None:
-    """A Fault where destinations are too many. Of a case that is to keep a history so many are advised as fit into its
-    cells."""
-    ends, allowed = list(dict.fromkeys(nodes)), options.most_destinations
-    if len(ends) > allowed:
-        most = min(allowed, fitting or allowed) if options.history else allowed
-        less = "" if most == allowed else f" (about {most} fit into the cells that a case may have)"
-        raise TooLarge(
-            f"there are {len(ends)} destinations, and at most {allowed} may be: give"
-            f" --destinations {most}{less},"
-            f" which keeps those with most vehicles, and lets the other trips end at the nearest of them; past"
-            f" these are the nodes {', '.join(ends[most:most + 10])}"
-        )
-
-
-def check_ends(pairs: Collection[tuple[str, str]], options: Options, fitting: int | None = None) -> None:
-    """A Fault where the destinations of these pairs of origin and destination are too many, or the pairs, each of which
-    has a row of demand."""
-    check_destinations((end for _, end in pairs), options, fitting)
-    if len(pairs) > options.most_rows:
-        raise TooLarge(
-            f"there are {count_text(len(pairs))} pairs of origin and destination, and at most"
-            f" {count_text(options.most_rows)} rows of demand may"
-            " be: give fewer --destinations, or join nodes where trips begin"
-        )

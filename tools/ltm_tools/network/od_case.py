@@ -3,17 +3,17 @@ of origins and destinations share."""
 from __future__ import annotations
 
 import os
-from collections.abc import Iterable
 from dataclasses import dataclass
 from fractions import Fraction
 from typing import ClassVar
 
-from ..case import Case, Demand, Setup
+from ..case import Case, Setup
 from ..errors import Fault
-from ..formats import MINUTE_MS, UNITS, many, short_vehicles
+from ..formats import MINUTE_MS, MOST_STEP_MS, UNITS, many, short_vehicles
 from ..tables import Reading
-from ..demand.profiles import Part, by_profile, read_profile
-from ..demand.values import summed_units, whole_units
+from ..demand.profiles import Part, Shares, read_profile, spread
+from ..demand.rows import too_many
+from ..demand.volumes import Volumes
 from ..files import existing
 from .importing import Carried, horizon_slots
 from .network import top
@@ -38,26 +38,53 @@ class OdOptions(Options):
     RANGES: ClassVar[dict[str, tuple[int, int | None]]] = {"period": (1, None), "horizon": (1, None), **Options.RANGES}
 
 
-def case_of(
-    made: Carried, volumes: dict[tuple[str, str], Fraction], options: OdOptions, parts: list[Part]
-) -> tuple[Case, int]:
+def case_of(made: Carried, volumes: Volumes, options: OdOptions, parts: list[Part]) -> tuple[Case, int]:
     """The case, and the slot with which its demand ends."""
-    slots = horizon_slots(options.horizon * MINUTE_MS, made.step)
+    slots = slots_with(parts, options, made.step)
+    setup = Setup(made.step, slots, options.origin_capacity * UNITS, carry=options.carry)
+    for _ in volumes.units("demand from node {} to node {}"):
+        pass  # it is seen that none is too large
+    units = volumes.summed_units()
+    nodes = {name: made.node(name) for name in volumes.names}
+    amounts = ((nodes[start], nodes[end], amount) for (start, end), amount in zip(volumes, units) if amount)
+    rows = spread(amounts, len(units) - units.count(0), parts, options.most_rows)
+    return Case(setup, made.links, rows), parts[-1].to_slot
+
+
+def slots_with(parts: list[Part], options: OdOptions, step: int) -> int:
+    """The slots of the horizon, in which all demand sets out."""
+    slots = horizon_slots(options.horizon * MINUTE_MS, step)
     if parts[-1].to_slot > slots:
         raise Fault(
-            f"the demand's period of {parts[-1].to_slot * made.step // MINUTE_MS} minutes is longer than the"
+            f"the demand's period of {parts[-1].to_slot * step // MINUTE_MS} minutes is longer than the"
             f" horizon of {options.horizon};"
-            f" give --horizon {-(-parts[-1].to_slot * made.step // MINUTE_MS)} or more"
+            f" give --horizon {-(-parts[-1].to_slot * step // MINUTE_MS)} or more"
         )
-    setup = Setup(made.step, slots, options.origin_capacity * UNITS, carry=options.carry)
-    for (start, end), volume in volumes.items():
-        whole_units(volume, f"demand from node {start} to node {end}")
-    amounts = zip(volumes, summed_units(volumes.values()))
-    units = {(made.node(start), made.node(end)): amount for (start, end), amount in amounts}
-    rows: Iterable[Demand] = by_profile(
-        {ends: amount for ends, amount in units.items() if amount}, parts, options.most_rows
-    )
-    return Case(setup, made.links, list(rows)), parts[-1].to_slot
+    return slots
+
+
+def check_times(options: OdOptions) -> None:
+    """A Fault, before any file of a network is read, where the horizon has more slots than may be, or the demand does
+    not set out within it; where no step is asked for yet, as far as that can be seen."""
+    step = options.fit or options.step
+    parts, _ = departure_parts(options, step or MOST_STEP_MS, [])
+    if step is not None:
+        slots_with(parts, options, step)
+
+
+def check_rows(volumes: Volumes, options: OdOptions) -> None:
+    """A Fault where demand between nodes makes more rows over a profile than may be, before routes are sought; where no
+    step is asked for yet that is seen later."""
+    step = options.fit or options.step
+    if step is None:
+        return
+    parts, _ = departure_parts(options, step, [])
+    if len(volumes) * len(parts) <= options.most_rows:
+        return
+    units, shares = volumes.summed_units(), Shares([part.share for part in parts])
+    rows = sum(share > 0 for amount in units for share in shares.cut(amount))
+    if rows > options.most_rows:
+        raise too_many(str(rows), len(units) - units.count(0), len(parts), options.most_rows)
 
 
 def departure_parts(options: OdOptions, step: int, notes: list[str]) -> tuple[list[Part], int | None]:

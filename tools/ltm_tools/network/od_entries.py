@@ -16,7 +16,7 @@ def enter_zones(network: Network, amounts: Amounts, options: OdOptions, notes: l
     """Gives trips that begin at nodes that others drive over a link of their own, which carries as much as the greatest
     road from there, or as they are, where they are more; gives the links, and tells of them."""
     trips: dict[str, Fraction] = {}
-    for (zone, _), volume in amounts.volumes.items():
+    for zone, volume in amounts.volumes.by_origin().items():
         for node, share in network.origins.get(zone, {}).items():
             trips[node] = trips.get(node, Fraction(0)) + volume * share
     begins = {}

@@ -4,55 +4,63 @@ from __future__ import annotations
 from fractions import Fraction
 
 from ..demand.matrices import Amounts
-from ..demand.values import whole_units
+from ..demand.volumes import Volumes
+from ..formats import MINUTE_MS
 from .ends import nearest_kept, most_used
+from .early import check_cells, check_ends, check_routes, destinations_that_fit
 from .importing import NotCarried
 from .network import Network
+from .od_case import OdOptions
 from .reach import Reach
 
 
-def pairs_of(raw: Network, amounts: Amounts) -> dict[tuple[str, str], None]:
+def pairs_of(raw: Network, amounts: Amounts) -> Volumes:
     """The nodes between which there is demand, wherever ways lead."""
-    return {
-        (start, end): None
-        for origin, destination in amounts.volumes
-        for start in raw.origins.get(origin, ())
-        for end in raw.destinations.get(destination, ())
-        if start != end
-    }
+    pairs = Volumes()
+    for origin, destination in amounts.volumes:
+        for start in raw.origins.get(origin, ()):
+            for end in raw.destinations.get(destination, ()):
+                if start != end:
+                    pairs.add(start, end, 0)
+    return pairs
 
 
-def by_node(raw: Network, amounts: Amounts, leave_out: bool, notes: list[str]) -> dict[tuple[str, str], Fraction]:
+def check_pairs(raw: Network, pairs: Volumes, options: OdOptions, all_turns: bool = True) -> None:
+    """TooLarge where demand between these nodes surely is more than a case can have, before it is seen for each where
+    ways lead. Where turns may be forbidden yet, routes are not counted."""
+    horizon_ms = options.horizon * MINUTE_MS
+    check_ends(pairs, options, destinations_that_fit(raw, horizon_ms, options.fit or options.step))
+    check_cells(raw, pairs.end_names(), options, horizon_ms)
+    if all_turns:
+        check_routes(raw, pairs.end_names(), options)
+
+
+def by_node(raw: Network, amounts: Amounts, leave_out: bool, notes: list[str]) -> Volumes:
     """The demand by nodes; NotCarried with all zones that have no node and all pairs without a route."""
     faults: list[str] = []
-    volumes: dict[tuple[str, str], Fraction] = {}
+    volumes = Volumes()
     left_out = Fraction(0)
     reach = Reach(raw)
-    for (origin, destination), volume in amounts.volumes.items():
-        unknown = [zone for zone, of in ((origin, raw.origins), (destination, raw.destinations)) if zone not in of]
-        if unknown:
+    for origin, destination, count, per in amounts.volumes.rows():
+        starts, ends = raw.origins.get(origin), raw.destinations.get(destination)
+        if starts is None or ends is None:
+            unknown = [zone for zone, of in ((origin, starts), (destination, ends)) if of is None]
             faults.append(
-                f"demand from {origin} to {destination}: no node on a link stands for zone" f" {' or '.join(unknown)}"
+                f"demand from {origin} to {destination}: no node on a link stands for zone {' or '.join(unknown)}"
             )
             continue
-        for start, share in raw.origins[origin].items():
-            for end, part in raw.destinations[destination].items():
+        for start, share in starts.items():
+            for end, part in ends.items():
+                numerator = count * share.numerator * part.numerator
+                denominator = per * share.denominator * part.denominator
                 if start == end:
-                    amounts.inner += volume * share * part
-                    continue
-                if reach.leads(start, end):
-                    volumes[start, end] = volumes.get((start, end), Fraction(0)) + volume * share * part
+                    amounts.inner += Fraction(numerator, denominator)
+                elif reach.leads(start, end):
+                    volumes.add(start, end, numerator, denominator)
                 elif leave_out:
-                    left_out += volume * share * part
+                    left_out += Fraction(numerator, denominator)
                 else:
-                    faults.append(
-                        f"demand from {origin} to {destination}: "
-                        + (
-                            f"no route leads from node {start} to node {end}"
-                            if raw.outs[start]
-                            else f"no link leads out of node {start}"
-                        )
-                    )
+                    faults.append(no_route(raw, (origin, destination), start, end))
     if faults:
         advice = (
             []
@@ -67,16 +75,21 @@ def by_node(raw: Network, amounts: Amounts, leave_out: bool, notes: list[str]) -
     return volumes
 
 
-def fewer_ends(
-    raw: Network, volumes: dict[tuple[str, str], Fraction], most: int, notes: list[str]
-) -> dict[tuple[str, str], Fraction]:
+def no_route(raw: Network, zones: tuple[str, str], start: str, end: str) -> str:
+    """What is wrong where no route leads between two nodes with demand."""
+    return f"demand from {zones[0]} to {zones[1]}: " + (
+        f"no route leads from node {start} to node {end}" if raw.outs[start] else f"no link leads out of node {start}"
+    )
+
+
+def fewer_ends(raw: Network, volumes: Volumes, most: int, notes: list[str]) -> Volumes:
     """The demand with trips to other than the most used destinations ending at the nearest of these."""
     units: dict[str, int] = {}
-    for (_, end), volume in volumes.items():
-        units[end] = units.get(end, 0) + whole_units(volume, f"demand to {end}")
+    for _, end, amount in volumes.units("demand to {1}"):
+        units[end] = units.get(end, 0) + amount
     kept = most_used(units, most)
     near = nearest_kept(raw, kept, [end for end in units if end not in kept])
-    made: dict[tuple[str, str], Fraction] = {}
+    made = Volumes()
     moved = inner = time = Fraction(0)
     reach = Reach(raw)
     for (start, end), volume in volumes.items():
@@ -87,8 +100,8 @@ def fewer_ends(
         if end != node:
             moved += volume
             time += volume * near[end].time
-        made[start, node] = made.get((start, node), Fraction(0)) + volume
-    whole = sum(volumes.values(), Fraction(0))
+        made.add(start, node, volume.numerator, volume.denominator)
+    whole = volumes.whole()
     notes.append(
         f"{len(kept)} of {len(units)} destinations are kept; {float(moved / whole) * 100:.1f} % of the"
         f" vehicles end at another node, in the mean"

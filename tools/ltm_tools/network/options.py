@@ -7,8 +7,10 @@ from typing import ClassVar
 from ..formats import (
     MOST_DESTINATIONS_ASKED,
     MOST_DESTINATIONS_NO_HISTORY,
+    MOST_FILE_BYTES,
     MOST_LINKS_ASKED,
     MOST_LINKS_NO_HISTORY,
+    MOST_ROUTED_ROWS,
     MOST_ROWS_ASKED,
     MOST_ROWS_NO_HISTORY,
     MOST_SLOT_UNITS,
@@ -17,6 +19,8 @@ from ..formats import (
 )
 from .bad_option import BadOption
 from .crossings.options import CrossingOptions
+
+LEAST_ROUTE_BYTES = len("a,b,0,c=1\n")
 
 
 @dataclass(frozen=True, kw_only=True)
@@ -44,6 +48,9 @@ class Options:
     history: bool | None = None
     """Whether the case keeps the history of its loading, as sessions need it, and is refused where it is too large for
     that; without it, where it is not."""
+    routes: bool | None = None
+    """Whether nodes of a case without splits take their free-flow routes, which are not written then; without it, where
+    the case keeps no history and has more links, destinations or rows than one with a history may have."""
     carry: bool = True
     """Whether what is left over of a capacity, rounded down in a slot, is carried to the next."""
     entries: bool = True
@@ -81,3 +88,10 @@ class Options:
     def most_rows(self) -> int:
         """How many rows of demand it may have, and of splits."""
         return MOST_ROWS_ASKED if self.history else MOST_ROWS_NO_HISTORY
+
+    @property
+    def most_routes(self) -> int:
+        """How many rows of routes it may have: in the program alone, where it may ask for these."""
+        if self.routes is False:
+            return min(self.most_rows, MOST_FILE_BYTES // LEAST_ROUTE_BYTES)
+        return MOST_ROWS_ASKED if self.history else MOST_ROUTED_ROWS

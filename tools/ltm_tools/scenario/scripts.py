@@ -69,7 +69,7 @@ def answers(
     folder: str | os.PathLike[str], lines: Sequence[bytes], program: str | os.PathLike[str] | None
 ) -> list[str]:
     """What a session answers to these lines of edits, one after the other."""
-    check_history_of(folder, "a session needs")
+    check_history_of(folder, "a session")
     found = (
         output(folder, "session", "0", program=program, script=b"".join(line + b"\n" for line in lines))
         .decode("utf-8", "backslashreplace")

@@ -12,7 +12,7 @@ import os
 import subprocess
 from collections.abc import Callable, Mapping
 from types import TracebackType
-from typing import TYPE_CHECKING, TypeVar
+from typing import TYPE_CHECKING, TypeVar, overload
 
 from ..case import Case
 from ..case.history import check_history_of
@@ -31,6 +31,7 @@ from ..loading.answers import (
     OriginCurve,
     OriginQueue,
     LinkTotals,
+    Sampled,
     Settled,
     State,
     Totals,
@@ -38,6 +39,7 @@ from ..loading.answers import (
     gap_of,
     link_curve_of,
     origin_curve_of,
+    sampled_of,
     state_of,
     totals_of,
 )
@@ -71,7 +73,7 @@ class Session:
     ) -> None:
         if not 0 <= workers <= MOST_WORKERS:
             raise Fault(f"a session has 0 to {MOST_WORKERS} workers, and not {workers}")
-        check_history_of(folder, "a session needs")
+        check_history_of(folder, "a session")
         self.folder, self.program = folder, program
         self.words = ["session", str(workers)]
         self.made: list[list[Told]] = []  # the accepted batches
@@ -205,9 +207,20 @@ class Session:
         """Works out anew what the edits change, and shows it."""
         return self._told(lambda words: Settled(int(words[2]), int(words[4])), do="settle")
 
+    @overload
     def totals(self) -> Totals:
-        """The totals of the loading that is shown."""
-        return self._told(totals_of, do="totals")
+        ...
+
+    @overload
+    def totals(self, every: int) -> Sampled:
+        ...
+
+    def totals(self, every: int | None = None) -> Totals | Sampled:
+        """The totals of the loading that is shown; with `every` what has entered and left each link, and left each
+        origin, by every so many boundaries and by the last."""
+        if every is None:
+            return self._told(totals_of, do="totals")
+        return sampled_of(self.ask(do="totals", every=every), self.names())
 
     def link(self, name: str) -> LinkTotals:
         """What has entered and left a link in the loading that is shown."""

@@ -17,7 +17,8 @@ from ..network.crossings.sources import with_turns
 from ..network.crossings.yielding import Yielding, add_waits, limit_yields, yields_told
 from ..network.entries import add_entries, entries_told, without
 from ..network.imported import Imported
-from ..network.importing import Carried, NotCarried, carried, check_ends
+from ..network.early import check_ends
+from ..network.importing import Carried, NotCarried, carried
 from ..network.network import Network
 from ..network.placing import places_of
 from ..network.steps import steps_table
@@ -97,9 +98,8 @@ def import_asked(asked: Asked, options: SumoOptions) -> Imported:
     inputs = asked.inputs
     check_losses(inputs, options)
     check_ends(asked.ends(), options)
-    routes = list(units_by_links(inputs.routes).items())
     try:
-        made = carried(asked.raw, options, routes)
+        made = carried(asked.raw, options, lambda: units_by_links(inputs.routes).items())
     except NotCarried as fault:
         fault.advice += fewer_turns(asked.turned, len(asked.raw.roads), True)
         raise
@@ -112,13 +112,14 @@ def import_asked(asked: Asked, options: SumoOptions) -> Imported:
     source = whole_edges(whole_again(source, asked.cut), made.source, asked.begins)
     streets = {**streets_of_parts(made, asked), **street_names(source, inputs.net.streets, turns)}
     check_greens(case, driven, turns, streets, inputs, options.allow_losses)
-    sizes = [*ask_for_sizes(case, options.moves, options.history), *fewer_turns(asked.turned, len(case.links), False)]
+    sizes = ask_for_sizes(case, options.moves, options.history, options.routes)
+    sizes += fewer_turns(asked.turned, len(case.links), False)
     places, lost = places_of(made, inputs.net.drawn)
     told = [
         *size_told(case, inputs),
         *left_out_told(inputs),
         *inputs.notes,
-        *changes_told(made, routes, set(asked.cut.stops.values()), inputs.net.streets),
+        *changes_told(made, made.routes, set(asked.cut.stops.values()), inputs.net.streets),
         *lost,
         *sizes,
     ]

@@ -15,7 +15,7 @@ from ..errors import Fault
 from ..files import existing
 from ..formats import MINUTE_MS, MOST_DESTINATIONS_ASKED, short_vehicles
 from ..network.ends import nearest_kept, most_used
-from ..network.importing import check_ends, destinations_that_fit
+from ..network.early import check_cells, check_ends, check_links, destinations_that_fit
 from ..network.network import Network
 from ..network.steps import longest_step
 from .ends import Cut, cut_ends, over_parts
@@ -92,6 +92,7 @@ def read_inputs(net_file: StrPath, files: Iterable[StrPath], options: SumoOption
     found = read_vehicles(vehicles, read_zones(zones))
     spacing = options.spacing or found.spacing
     net = read_net(net_path, vehicle_class=options.vehicle_class, headway=options.headway, spacing=spacing)
+    check_links(net.network, options, net_path)
     inputs = Inputs(net, found, background=background_of(net_path, net.unused, polygons, net.drawn))
     if options.spacing is None and spacing != SPACING:
         inputs.notes.append(
@@ -156,7 +157,10 @@ def find_routes(inputs: Inputs, options: SumoOptions) -> None:
     if options.destinations is None:
         last = options.horizon or 120
         most = destinations_that_fit(net, last * MINUTE_MS, options.fit or options.step)
-        check_ends(sure_ends(found.vehicles, ways, net), options, most)
+        pairs = sure_ends(found.vehicles, ways, net)
+        check_ends(pairs, options, most)
+        if options.horizon is not None:
+            check_cells(net, {end for _, end in pairs}, options, last * MINUTE_MS)
     trips = [one for one in found.vehicles if not one.whole and all(name in net.roads for name in one.edges)]
     legs = ways.legs(leg for one in trips for leg in zip(one.edges, one.edges[1:]))
     routed = 0

@@ -12,7 +12,7 @@ from ..demand.route_splits import Route
 from ..formats import MOST_LINKS_ASKED, counted, short_vehicles
 from ..network.crossings.chosen import Chosen
 from ..network.crossings.movements import Movements
-from ..network.importing import destinations_that_fit
+from ..network.early import destinations_that_fit
 from ..network.network import Network
 from .crossings import net_step
 from .ends import cut_time

@@ -10,7 +10,7 @@ from collections.abc import Iterable, Mapping, Sequence
 from fractions import Fraction
 from math import lcm
 
-from ..demand.passages import strong_parts
+from ..case.leading import strong_parts
 from .net import SumoNet
 
 Leg = tuple[str, str]

@@ -9,21 +9,23 @@ from typing import ClassVar
 from ..case.places import DEGREES
 from ..case.sizes import ask_for_sizes
 from ..errors import Fault
-from ..formats import MINUTE_MS, MOST_JAM_PER_KM, agreeing, count_text, counted
+from ..formats import MINUTE_MS, MOST_JAM_PER_KM, agreeing, counted
 from ..network.bad_option import BadOption
 from ..network.centroids import part_node
 from ..network.changes import changes_told
 from ..demand.matrices import Amounts
-from ..demand.values import whole_units
+from ..demand.volumes import Volumes
 from ..files import existing
 from ..network.imported import Imported
 from ..network.entries import without
-from ..network.importing import carried, check_ends, destinations_that_fit, least_routes
+from ..network.early import check_ends, check_links
+from ..network.importing import carried
+from ..network.least_routes import least_routes
 from ..network.lengths import unit_by_range
 from ..network.network import LEAST_M, Network, Node, road_of
-from ..network.od_case import OdOptions, case_of, inner_told, departure_parts, size_told
+from ..network.od_case import OdOptions, case_of, check_rows, check_times, inner_told, departure_parts, size_told
 from ..network.od_entries import enter_zones
-from ..network.od_nodes import by_node, fewer_ends, pairs_of
+from ..network.od_nodes import by_node, check_pairs, fewer_ends, pairs_of
 from ..network.placing import Map, places_of
 from ..network.steps import steps_table
 from .reading import TntpLink, TntpNet, read_net, read_places, read_trips
@@ -69,7 +71,7 @@ class Asked:
     amounts: Amounts
     in_degrees: bool
     notes: list[str] = field(default_factory=list)
-    volumes: dict[tuple[str, str], Fraction] = field(default_factory=dict)
+    volumes: Volumes = field(default_factory=Volumes)
     entries: frozenset[str] = frozenset()
     """The links by which trips come to nodes that others drive over."""
 
@@ -81,21 +83,16 @@ def import_tntp(
     case cannot have."""
     asked = read_all(net, trips, nodes, options)
     raw = asked.network
-    routes = (
-        least_routes(raw, [(*ends, whole_units(volume, "demand")) for ends, volume in asked.volumes.items()])
-        if options.fit
-        else []
-    )
-    made = carried(raw, options, routes)
+    made = carried(raw, options, lambda: least_routes(raw, asked.volumes.units("demand")))
     parts, clock = departure_parts(options, made.step, asked.notes)
     case, last = case_of(made, asked.volumes, options, parts)
-    sizes = ask_for_sizes(case, options.moves, options.history)
+    sizes = ask_for_sizes(case, options.moves, options.history, options.routes)
     places, lost = places_of(made, Map(crs=DEGREES if asked.in_degrees else None))
     told = [
         *asked.notes,
         *size_told(made, case, last),
         *inner_told(asked.amounts.inner),
-        *changes_told(made, routes),
+        *changes_told(made, made.routes),
         *lost,
         *sizes,
     ]
@@ -109,37 +106,34 @@ def steps_of_tntp(
 ) -> list[str]:
     """What a fit of the network to each of some steps would change, a line each."""
     asked = read_all(net, trips, nodes, options)
-    return steps_table(asked.network, horizon_ms=options.horizon * MINUTE_MS, ends={end for _, end in asked.volumes})
+    return steps_table(asked.network, horizon_ms=options.horizon * MINUTE_MS, ends=set(asked.volumes.end_names()))
 
 
 def read_all(net: StrPath, trips: StrPath, nodes: StrPath | None, options: TntpOptions) -> Asked:
     """The network and its demand by nodes."""
     paths = [existing(path) for path in (net, trips)]
+    check_times(options)
     read = read_net(paths[0])
-    if len(read.links) > options.most_links:
-        raise Fault(
-            f"{net}: {count_text(len(read.links))} links, and at most {count_text(options.most_links)} may be: cut out"
-            f" a smaller area"
-        )
     places = {} if nodes is None else read_places(existing(nodes))
     in_degrees = bool(places) and unit_by_range(places.values()) == "degrees"
     units = network_units(read, places, in_degrees, options.length_unit, options.time_unit)
+    raw = network_of(read, units, places, options)
+    check_links(raw, options, net)
     amounts, said = read_trips(paths[1])
-    asked = Asked(network_of(read, units, places, options), amounts, in_degrees, [*units.notes])
+    asked = Asked(raw, amounts, in_degrees, [*units.notes])
     asked.notes += [*links_told(read, units, options), *trips_told(amounts, said, options)]
-    scaled = {pair: volume * options.scale for pair, volume in amounts.volumes.items()}
-    amounts.volumes, amounts.inner = scaled, amounts.inner * options.scale
+    amounts.volumes, amounts.inner = amounts.volumes.scaled(options.scale), amounts.inner * options.scale
     place_zones(asked.network, read, asked.notes)
     if options.destinations is None and not options.leave_out_unreached:
-        most = destinations_that_fit(asked.network, options.horizon * MINUTE_MS, options.fit or options.step)
-        check_ends(pairs_of(asked.network, amounts), options, most)
+        check_pairs(raw, pairs_of(raw, amounts), options)
     if options.entries:
         asked.entries = enter_zones(asked.network, amounts, options, asked.notes)
     asked.volumes = by_node(asked.network, amounts, options.leave_out_unreached, asked.notes)
     if options.destinations is not None and asked.volumes:
         asked.volumes = fewer_ends(asked.network, asked.volumes, options.destinations, asked.notes)
     check_ends(asked.volumes, options)
-    asked.network.ends = {node for ends in asked.volumes for node in ends}
+    check_rows(asked.volumes, options)
+    asked.network.ends = set(asked.volumes.names)
     return asked
 
 
@@ -218,7 +212,7 @@ def links_told(read: TntpNet, units: TntpUnits, options: TntpOptions) -> list[st
 
 def trips_told(amounts: Amounts, said: Fraction | None, options: TntpOptions) -> list[str]:
     """How many trips there are where their file says another sum, and by what they are multiplied."""
-    whole = sum(amounts.volumes.values(), Fraction(0)) + amounts.inner
+    whole = amounts.volumes.whole() + amounts.inner
     told = []
     if said is not None and abs(whole - said) > NEAR * said:
         told.append(f"the trips sum to {float(whole):,.10g}, and their file says a total of {float(said):,.10g}")

@@ -5,21 +5,27 @@ What stands behind `~` is a remark.
 from __future__ import annotations
 
 import re
-from collections.abc import Iterator
+from collections.abc import Iterable, Iterator
 from dataclasses import dataclass, field
 from fractions import Fraction
+from itertools import chain
 from pathlib import Path
 
 from ..errors import Fault
 from ..files import read_text, shown
 from ..formats import exact_or_none, number_rule, whole_of
 from ..demand.matrices import Amounts
+from ..demand.volumes import Volumes
 
 META = re.compile(r"<([^>]*)>\s*(.*)")
 END = "END OF METADATA"
 LINK_FIELDS = ("init_node", "term_node", "capacity", "length", "free_flow_time")
 """The first fields of a link, all that a loading takes; behind them stand b, power, speed, toll and type."""
 TOLL = 8
+BLOCK = 65_536  # signs of a text that are cut into lines together
+PLAIN = 15
+"""The signs up to which a number without sign and power surely is no larger than one may be."""
+POWERS = [10**power for power in range(PLAIN)]
 HEADED = {
     name: re.compile(words + r"\s*[(\[]\s*([^)\]]+?)\s*[)\]]", re.IGNORECASE)
     for name, words in {"length": r"\blength", "time": r"\bfree[ _]flow[ _](?:travel[ _])?time"}.items()
@@ -53,12 +59,13 @@ class TntpNet:
 
 @dataclass
 class Parts:
-    """The metadata of a file by name, its remarks, and its other lines that are not empty, each with its number."""
+    """The metadata of a file by name, its remarks as far as lines were asked for, and its other lines that are not
+    empty, each with its number, which are read one by one."""
 
     path: Path
+    lines: Iterator[tuple[int, str]]
     metadata: dict[str, str] = field(default_factory=dict)
     remarks: list[str] = field(default_factory=list)
-    lines: list[tuple[int, str]] = field(default_factory=list)
 
     def whole(self, name: str, default: int) -> int:
         """A whole number of the metadata."""
@@ -73,25 +80,41 @@ class Parts:
 
 def file_parts(path: Path) -> Parts:
     """The parts of a file; a Fault where it has no metadata."""
-    made, over = Parts(path), False
-    for number, line in enumerate(read_text(path).splitlines(), 1):
+    numbered = enumerate(lines_of(read_text(path)), 1)
+    made, before = Parts(path, iter(())), []
+    for number, line in numbered:
         found = META.match(line.strip())
-        if found is not None and not over:
-            name = found[1].strip().upper()
-            over = name == END
-            made.metadata[name] = found[2].strip()
+        if found is None:
+            before.append((number, line))
             continue
-        text, mark, remark = line.partition("~")
-        if mark:
-            made.remarks.append(remark)
-        if text.strip():
-            made.lines.append((number, text.strip()))
-    if not over:
-        raise Fault(
-            f"{path}: no line <{END}>; expected a file of the Transportation Networks collection, which begins with"
-            f" lines as <NUMBER OF ZONES> 24"
-        )
-    return made
+        name = found[1].strip().upper()
+        made.metadata[name] = found[2].strip()
+        if name == END:
+            made.lines = plain_lines(chain(before, numbered), made.remarks)
+            return made
+    raise Fault(
+        f"{path}: no line <{END}>; expected a file of the Transportation Networks collection, which begins with"
+        f" lines as <NUMBER OF ZONES> 24"
+    )
+
+
+def lines_of(text: str) -> Iterator[str]:
+    """The lines of a text, as `splitlines` cuts it, a block after the other."""
+    begin = 0
+    while begin < len(text):
+        end = text.find("\n", begin + BLOCK) + 1 or len(text)
+        yield from text[begin:end].splitlines()
+        begin = end
+
+
+def plain_lines(numbered: Iterable[tuple[int, str]], remarks: list[str]) -> Iterator[tuple[int, str]]:
+    """The lines that are not empty, without remarks, which are noted."""
+    for number, line in numbered:
+        if "~" in line:
+            line, _, remark = line.partition("~")
+            remarks.append(remark)
+        if text := line.strip():
+            yield number, text
 
 
 def read_net(path: Path) -> TntpNet:
@@ -138,30 +161,41 @@ def amount(text: str, name: str, place: str) -> Fraction:
 def read_trips(path: Path) -> tuple[Amounts, Fraction | None]:
     """The trips of a file by zones, and their sum as its metadata says it."""
     parts = file_parts(path)
-    made = Amounts({}, Fraction(0), ())
-    for origin, destination, volume in cells_of(parts):
+    made = Amounts(Volumes(), Fraction(0), ())
+    add = made.volumes.add
+    for origin, destination, count, per in cells_of(parts):
         if origin == destination:
-            made.inner += volume
-        elif volume:
-            made.volumes[origin, destination] = made.volumes.get((origin, destination), Fraction(0)) + volume
+            made.inner += Fraction(count, per)
+        elif count:
+            add(origin, destination, count, per)
     return made, exact_or_none(parts.metadata.get("TOTAL OD FLOW", ""))
 
 
-def cells_of(parts: Parts) -> Iterator[tuple[str, str, Fraction]]:
-    """The entries of a trip file: lines as `Origin 1`, each followed by entries as `2 : 100.0;`."""
+def cells_of(parts: Parts) -> Iterator[tuple[str, str, int, int]]:
+    """The entries of a trip file, with vehicles as a numerator and a denominator: lines as `Origin 1`, each followed by
+    entries as `2 : 100.0;`."""
     origin = ""
     for number, text in parts.lines:
-        place = f"{parts.path} line {number}"
-        words = text.split()
-        if words[0].lower() == "origin":
+        if text[0] in "oO" and (words := text.split())[0].lower() == "origin":
             if len(words) < 2:
-                raise Fault(f"{place}: {shown(text)}: expected an origin, as Origin 1")
+                raise Fault(f"{parts.path} line {number}: {shown(text)}: expected an origin, as Origin 1")
             origin, text = words[1], " ".join(words[2:])
-        for entry in filter(str.strip, text.split(";")):
-            destination, colon, volume = map(str.strip, entry.partition(":"))
-            if not origin or not colon or not destination:
-                raise Fault(f"{place}: {shown(entry.strip())}: expected a line Origin 1, then 2 : 100.0;")
-            yield origin, destination, amount(volume, f"trips from {origin} to {destination}", place)
+        for entry in text.split(";"):
+            destination, colon, volume = entry.partition(":")
+            destination, volume = destination.strip(), volume.strip()
+            if not origin or not destination or not colon:
+                if not entry.strip():
+                    continue
+                raise Fault(
+                    f"{parts.path} line {number}: {shown(entry.strip())}: expected a line Origin 1, then 2 : 100.0;"
+                )
+            whole, _, part = volume.partition(".")
+            digits = whole + part
+            if len(volume) <= PLAIN and digits.isdigit() and digits.isascii():
+                yield origin, destination, int(digits), POWERS[len(part)]
+            else:
+                what = f"trips from {origin} to {destination}"
+                yield origin, destination, *amount(volume, what, f"{parts.path} line {number}").as_integer_ratio()
 
 
 def read_places(path: Path) -> dict[str, tuple[float, float]]:
