@@ -32,9 +32,10 @@ def made(**bodies: object) -> type[unittest.TestCase]:
 
 
 class Runs(unittest.TestCase):
-    def run_all(self, case: type[unittest.TestCase], *words: str) -> tuple[int, str]:
+    def run_all(self, case: type[unittest.TestCase], *words: str, seconds: float = 1.0) -> tuple[int, str]:
+        """The status and the words of a run whose tests may take so long; with 0 no timer runs, and any signal ends them."""
         module = runner()
-        module.LIMITS = tuple((timer, number, 1.0, what) for timer, number, _, what in module.LIMITS)
+        module.LIMITS = tuple((*limit[:3], seconds, *limit[4:]) for limit in module.LIMITS)
         tests = unittest.defaultTestLoader.loadTestsFromTestCase(case)
         with redirect_stdout(io.StringIO()) as told, mock.patch.object(
             libraries, "missing", return_value=[]
@@ -67,8 +68,18 @@ class Runs(unittest.TestCase):
                 os.kill(os.getpid(), number)
             signal.pthread_sigmask(signal.SIG_UNBLOCK, limits)
 
-        status, told = self.run_all(made(a_both=both, b_is_well=lambda _: None))
+        status, told = self.run_all(made(a_both=both, b_is_well=lambda _: None), seconds=0.0)
         self.assertEqual((status, told.splitlines()[-1]), (1, "1 passed, 1 failed, 0 skipped"))
+
+    def test_a_signal_that_comes_late(self) -> None:
+        """A signal of the test before ends no test that has time left."""
+
+        def signalled(_: object) -> None:
+            for number in (signal.SIGALRM, signal.SIGPROF):
+                os.kill(os.getpid(), number)
+
+        status, told = self.run_all(made(a_signalled=signalled), seconds=60.0)
+        self.assertEqual((status, told.splitlines()[-1]), (0, "1 passed, 0 failed, 0 skipped"))
 
     def test_a_browser_that_is_slow_at_first(self) -> None:
         """A test that fails at first passes at its second run, with all made anew, and says so; a fault that stays
