@@ -33,7 +33,8 @@ def made(**bodies: object) -> type[unittest.TestCase]:
 
 class Runs(unittest.TestCase):
     def run_all(self, case: type[unittest.TestCase], *words: str, seconds: float = 1.0) -> tuple[int, str]:
-        """The status and the words of a run whose tests may take so long; with 0 no timer runs, and any signal ends them."""
+        """The status and the words of a run whose tests may take so long; with 0 no timer runs, and any signal ends
+        them."""
         module = runner()
         module.LIMITS = tuple((*limit[:3], seconds, *limit[4:]) for limit in module.LIMITS)
         tests = unittest.defaultTestLoader.loadTestsFromTestCase(case)
