@@ -22,7 +22,8 @@ HEAD = """\
 # What was measured
 
 How long loads, edits, imports and the tools take, and how much memory. `tools/measure` measures it and writes this
-page; other pages link to it and repeat none of its numbers.
+page; other pages link to it and repeat none of its numbers, but for a table that it copies into
+[README](../README.md#how-large).
 
 Times are **processor time** (user and system, with all that a command starts), as a machine that does other work as
 well changes it least; where a clock was read, the table says so. Where several runs were made, the least stands
@@ -71,6 +72,22 @@ def text_of(kept: Mapping[str, str], sections: tuple[Section, ...]) -> str:
         marked = f"{BEGIN.format(section.name)}\n\n{measured}\n\n{END.format(section.name)}"
         parts.append(f"## {section.title}\n\n{section.text}\n\n{marked}\n")
     return "\n".join(parts)
+
+
+def excerpt(measured: str) -> str:
+    """When and where a section was measured, and its first table: what another document shows of it."""
+    paragraphs = measured.split("\n\n")
+    return "\n\n".join([paragraphs[0], next(one for one in paragraphs if one.startswith("|"))])
+
+
+def copied(document: str, kept: Mapping[str, str]) -> str:
+    """A document that shows excerpts of sections between the same marks, with those of what was measured."""
+    for name, measured in kept.items():
+        begin, end = BEGIN.format(name), END.format(name)
+        before, marked, rest = document.partition(begin)
+        if marked:
+            document = f"{before}{begin}\n\n{excerpt(measured)}\n\n{end}{rest.partition(end)[2]}"
+    return document
 
 
 def stamp(room: Room) -> str:

@@ -1,6 +1,7 @@
-"""Running a command and reading what it cost: processor time, memory, output."""
+"""Running a command and reading what it cost: processor time, time by the clock, memory, output."""
 import os
 import re
+import signal
 import subprocess
 import sys
 import tempfile
@@ -14,16 +15,28 @@ from ltm_tools.errors import Fault
 from ltm_tools.program import LARGE_PAGES
 
 MEGABYTE = 1024.0  # of the kilobytes that the system tells
+LOOK = 0.5  # seconds between two looks at what a run holds
+# starts a run and writes its status, seconds by the clock, seconds of processor time and most memory: the system never
+# tells less memory of a run than the process held that started it, and this one holds little
+STARTING = """\
+import os, sys, time
+began = time.monotonic()
+_, status, used = os.wait4(os.posix_spawnp(sys.argv[2], sys.argv[2:], os.environ), 0)
+clock = time.monotonic() - began
+with open(sys.argv[1], "w") as told:
+    print(os.waitstatus_to_exitcode(status), clock, used.ru_utime + used.ru_stime, used.ru_maxrss, file=told)
+"""
 
 
 @dataclass(frozen=True)
 class Cost:
     """What a run cost: seconds of processor time, its own and of all that it started and waited for; the most memory
-    that one of these held, in MB; and what it wrote."""
+    that one of these held, in MB; what it wrote; and seconds by the clock."""
 
     seconds: float
     memory: float
     output: bytes
+    clock: float
 
     @property
     def milliseconds(self) -> float:
@@ -31,47 +44,82 @@ class Cost:
         return self.seconds * 1000
 
 
-def cost_of(words: Sequence[str | Path], folder: Path | None = None, script: Path | None = None) -> Cost:
-    """Runs a command in a folder, with a file as its standard input; a Fault where it does not end well."""
+@dataclass(frozen=True)
+class Limits:
+    """How long a run may take, in seconds by the clock, and how much memory it may hold together with all that it
+    starts, in MB."""
+
+    clock: float
+    memory: float
+
+
+class PassesLimit(Fault):
+    """A run passed one of its limits and was ended."""
+
+
+def cost_of(
+    words: Sequence[str | Path], folder: Path | None = None, script: Path | None = None, limits: Limits | None = None
+) -> Cost:
+    """Runs a command in a folder, with a file as its standard input; a Fault where it does not end well. With limits
+    PassesLimit where it passes one, and its memory is the most that it and all that it started held together, where
+    that is more than what one of them held."""
     with (
         tempfile.TemporaryFile() as out,
         tempfile.TemporaryFile() as err,
-        open(script or os.devnull, "rb") as told,
+        tempfile.NamedTemporaryFile() as told,
+        open(script or os.devnull, "rb") as given,
     ):
         process = subprocess.Popen(
-            [str(word) for word in words],
+            [sys.executable, "-I", "-S", "-c", STARTING, told.name, *map(str, words)],
             cwd=folder,
-            stdin=told,
+            stdin=given,
             stdout=out,
             stderr=err,
             env={**LARGE_PAGES, **os.environ},
+            start_new_session=True,
         )
-        _, status, used = os.wait4(process.pid, 0)
-        process.returncode = os.waitstatus_to_exitcode(status)
+        held_together = most_held(process, limits)
         out.seek(0)
         err.seek(0)
-        if process.returncode:
+        status, *numbers = told.read().split() or [str(process.returncode).encode()]
+        if int(status):
             said = err.read().decode("utf-8", "replace").strip().splitlines()
-            raise Fault(f"{words[0]} ended with status {process.returncode}" + (f": {said[-1]}" if said else ""))
-        return Cost(used.ru_utime + used.ru_stime, used.ru_maxrss / MEGABYTE, out.read())
+            raise Fault(f"{words[0]} ended with status {int(status)}" + (f": {said[-1]}" if said else ""))
+        clock, seconds, memory = map(float, numbers)
+        return Cost(seconds, max(memory / MEGABYTE, held_together), out.read(), clock)
 
 
-@dataclass(frozen=True)
-class Watched(Cost):
-    """What a run cost that was watched: `memory` is the most that it and all that it started held together, in MB; and
-    the seconds by the clock."""
+def most_held(process: subprocess.Popen[bytes], limits: Limits | None) -> float:
+    """Waits until a run has ended, and with limits looks at its memory meanwhile: the most that all that it started
+    held together, in MB. It is ended, with all that it started, where it passes a limit or the wait is interrupted."""
+    most, began = 0.0, time.monotonic()
+    try:
+        while limits is not None:
+            try:
+                process.wait(LOOK)
+                return most
+            except subprocess.TimeoutExpired:
+                most = max(most, sum(held(one) for one in started_by(process.pid)[1:]) / MEGABYTE)
+            if time.monotonic() - began > limits.clock:
+                raise PassesLimit(f"over {limits.clock:,.0f} s")
+            if most > limits.memory:
+                raise PassesLimit(f"over {limits.memory / MEGABYTE:g} GB")
+        process.wait()
+        return most
+    except BaseException:
+        os.killpg(process.pid, signal.SIGKILL)
+        process.wait()
+        raise
 
-    clock: float
 
-
-def watched(words: Sequence[str | Path]) -> Watched:
-    """Runs a command, shows what it writes on the standard error, and looks twice a second at the memory; a Fault where
-    it does not end well."""
+def watched(words: Sequence[str | Path]) -> Cost:
+    """Runs a command, shows what it writes on the standard error, and looks twice a second at the memory that it and
+    all that it started hold together; a Fault where it does not end well."""
     began, ended, most, lines = time.monotonic(), threading.Event(), [0.0], []
     process = subprocess.Popen([str(word) for word in words], stdout=subprocess.PIPE, env={**LARGE_PAGES, **os.environ})
 
     def watch() -> None:
-        while not ended.wait(0.5):
+        while not ended.wait(LOOK):
             most[0] = max(most[0], sum(held(one) for one in started_by(process.pid)))
 
     watching = threading.Thread(target=watch)
@@ -88,7 +136,7 @@ def watched(words: Sequence[str | Path]) -> Watched:
     if process.returncode:
         raise Fault(f"{words[0]} ended with status {process.returncode}")
     seconds = used.ru_utime + used.ru_stime
-    return Watched(seconds, most[0] / MEGABYTE, b"".join(lines), time.monotonic() - began)
+    return Cost(seconds, most[0] / MEGABYTE, b"".join(lines), time.monotonic() - began)
 
 
 def started_by(process: int) -> list[int]:

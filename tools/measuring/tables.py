@@ -35,3 +35,8 @@ def amount(cells: float) -> str:
 def ratio(ours: float, theirs: float) -> str:
     """How many times theirs ours is."""
     return f"{ours / theirs:.2f}" if theirs > 0 else DASH
+
+
+def memory_text(megabytes: float) -> str:
+    """Memory in MB, or in GB where it is one or more."""
+    return f"{megabytes:,.0f} MB" if megabytes < 1024 else f"{megabytes / 1024:.1f} GB"
