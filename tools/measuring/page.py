@@ -31,8 +31,9 @@ here. Each section says when, on which machine, at which commit and by which pro
 is called unproved was built from the same text without its proofs, by other means, and may be several times slower
 than the proved one, which `./ltm --prove` builds: hold it against the plain engine, which was run beside it.
 
-    tools/measure                                 # all of it, in some ten minutes, and the city
+    tools/measure                                 # all of it, in some ten minutes, and the city and the shapes
     tools/measure --plain PROGRAM speed sizes     # two sections, one of them beside a plain engine
+    tools/measure shapes --keep FOLDER            # an hour or more; the same again goes on where it was cut off
 
 What the proofs and the tests cost stands in [CONTRIBUTING](../CONTRIBUTING.md#how-long-the-gate-takes), how near
 loadings are to SUMO's in [TURNS](TURNS.md#how-near-it-is), how near they are to theory in

@@ -68,8 +68,10 @@ SECTIONS = (
         "As large as public test networks",
         "Made networks with as many zones, nodes and links as networks of the Transportation Networks collection "
         "([`shapes.py`](../examples/from_tntp/shapes.py)), with trips of an hour over a horizon of two, fitted to a "
-        "step of 10 s; `load`, `delay` and `gap` by the fastest routes, and one iteration of [`assign`](ASSIGN.md). "
-        "What is too large is refused, with the reason.",
+        "step of 10 s: importing each by `from-tntp --routes 1`; `load`, `delay` and `gap` by the fastest routes on "
+        "empty roads; and a run of [`assign`](ASSIGN.md) with one iteration and as many processes as there are "
+        "processors. The clock counts here, so run it on a machine that does nothing else. "
+        "[README](../README.md#how-large) shows the first table.",
         shapes.shapes,
     ),
     Section(

@@ -17,6 +17,8 @@ from pathlib import Path
 from support import BUILT, CLONE
 
 DOCUMENTS = sorted([CLONE / "README.md", *(CLONE / "docs").glob("*.md"), *(CLONE / "examples").glob("**/README.md")])
+MEASURED = "MEASURED.md"
+COPIED = re.compile(r"<!-- measured: \w+ -->.*?<!-- end of \w+ -->", re.DOTALL)
 MARK = re.compile(r"<!-- not run: (.+) -->")
 COMMAND = re.compile(
     r"\./ltm |tools/[\w-]+|examples/[\w/]+(?:\.py|run)\b|(?:cp|sed|mkdir|echo|printf|cat|grep|export|sudo|cd) |"
@@ -72,6 +74,12 @@ class Step:
     def is_never(self) -> bool:
         """Whether no test may run it."""
         return bool(NEVER.search(self.command))
+
+
+def own_text(path: Path) -> str:
+    """A document without what tools/measure copies into it from the page of what was measured."""
+    text = path.read_text(encoding="utf-8")
+    return text if path.name == MEASURED else COPIED.sub("", text)
 
 
 def blocks(text: str) -> list[Block]:

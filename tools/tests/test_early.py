@@ -19,7 +19,7 @@ from ltm_tools.errors import Fault
 from ltm_tools.network import early, options as bounds
 from ltm_tools.network.early import Sure, check_cells, check_routes
 from ltm_tools.network.fit import FittedNetwork
-from ltm_tools.network.importing import carried
+from ltm_tools.network.importing import NotCarried, carried
 from ltm_tools.network.options import Options
 
 LATE = "work that takes long has begun"
@@ -174,6 +174,24 @@ class NeverTooMuch(unittest.TestCase):
                     self.assertLessEqual(rows, after.sum_of(end, counted[1]) - 1, seed)
                 closer += sure.joined > 0 and sure.links > 1
         self.assertGreater(closer, 20)
+
+    def test_links_that_a_fit_makes(self) -> None:
+        """A node with five roads on each side gets two links more, which pass the bound; with a longer step two roads
+        become one."""
+        roads = [road(f"in{one}", f"a{one}", "m", 500) for one in range(5)]
+        roads += [road(f"out{one}", "m", f"b{one}", 500) for one in range(5)]
+        raw = network(*roads, road("short", "b0", "c", 50), ends="c")
+        with mock.patch.object(bounds, "MOST_LINKS_NO_HISTORY", 12):
+            with self.assertRaises(NotCarried) as fault:
+                carried(raw, Options(fit=1000))
+            self.assertEqual(
+                fault.exception.lines,
+                [
+                    "there are 13 links, and at most 12 may be: take a longer step by --fit (--steps shows how many"
+                    " links each leaves), cut out a smaller area, or leave out small roads"
+                ],
+            )
+            self.assertEqual(len(carried(raw, Options(fit=10_000)).links), 12)
 
     def test_cells_of_a_network_that_is_not_fitted(self) -> None:
         for seed in range(40):

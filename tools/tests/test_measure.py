@@ -1,11 +1,14 @@
 """Tests of tools/measure: what a run costs, the cases that are made, the page, and that no other page has times."""
+import json
 import re
 import sys
+import time
 import unittest
 from unittest import mock
 
 from made_live import needs_live
 from support import BUILT, CLONE, FolderTest, needs, needs_numpy, needs_program, script
+from support_documents import own_text
 from ltm_tools.case import Case
 from ltm_tools.errors import Fault
 from ltm_tools.tntp.reading import read_net, read_trips
@@ -16,12 +19,13 @@ from measuring.room import Room
 from measuring.sections import SECTIONS
 
 measure = script("measure")
+README = CLONE / "README.md"
 HOLDS = "import time\nkept = b'x' * 40_000_000\nprint('held', flush=True)\ntime.sleep(1.5)"
 STARTS = f"import subprocess, sys\nsubprocess.run([sys.executable, '-c', {HOLDS!r}], check=True)"
 BURNS = "import time\nwhile time.process_time() < 0.3: pass\nprint('burnt')"
 TIME = re.compile(
     r"\d[\d.,]* (?:ms|s|seconds|minutes|microseconds) of processor time|\d ms each|"
-    r"processor time[^.|]{0,40}\d[\d.,]* (?:ms|s|seconds|minutes)\b"
+    r"processor time[^.|]{0,40}\d[\d.,]* (?:ms|s|seconds|minutes)\b|\d s, \d[\d.,]* [MG]B\b"
 )
 WITH_TIMES = {"MEASURED.md", "CHANGELOG.md"}  # the page, and what changed from one version to the next
 
@@ -55,7 +59,27 @@ class Costs(FolderTest):
         with mock.patch("sys.stderr"), self.assertRaisesRegex(Fault, "ended with status 1"):
             runs.watched([sys.executable, "-c", "import sys; sys.exit(1)"])
 
+    def test_memory_is_that_of_the_run_and_not_of_this_process(self) -> None:
+        held = bytearray(200_000_000)
+        cost = runs.cost_of([sys.executable, "-c", BURNS])
+        self.assertTrue(3 < cost.memory < 100, (cost, len(held)))
+
+    def test_a_run_that_takes_too_long_or_too_much(self) -> None:
+        """It is ended, with what it started; within both limits it ends as without them, and what it started counts."""
+        burns, starts = [sys.executable, "-c", BURNS], [sys.executable, "-c", STARTS]
+        began = time.monotonic()
+        with self.assertRaisesRegex(runs.PassesLimit, "^over 1 s$"):
+            runs.cost_of([sys.executable, "-c", f"{STARTS}\ntime.sleep(60)"], limits=runs.Limits(1, 4000))
+        self.assertLess(time.monotonic() - began, 10)
+        with self.assertRaisesRegex(runs.PassesLimit, r"^over 0\.03125 GB$"):
+            runs.cost_of(starts, limits=runs.Limits(60, 32))
+        cost = runs.cost_of(starts, limits=runs.Limits(60, 4000))
+        self.assertEqual(cost.output, b"held\n")
+        self.assertTrue(40 <= cost.memory < 400 and 1.5 <= cost.clock < 30 and cost.seconds < cost.clock, cost)
+        self.assertEqual(runs.cost_of(burns, limits=runs.Limits(60, 4000)).output, b"burnt\n")
+
     def test_numbers(self) -> None:
+        self.assertEqual([tables.memory_text(value) for value in (8.4, 1023.4, 1536)], ["8 MB", "1,023 MB", "1.5 GB"])
         self.assertEqual([tables.figure(value) for value in (1234.5, 12.34, 1.234, 0.0123)],
                          ["1,234", "12.3", "1.23", "0.012"])  # fmt: skip
         self.assertEqual((tables.ratio(3, 2), tables.ratio(3, 0)), ("1.50", "-"))
@@ -110,26 +134,68 @@ class Shapes(FolderTest):
         amounts, total = read_trips(self.folder / "sioux_falls_trips.tntp")
         self.assertEqual((len(amounts.volumes), sum(amounts.volumes.values())), (24 * 23, total))
 
+    def measured(self, *names: str, **changed: object) -> tables.Table:
+        """The table of these shapes, measured with some names of the module changed."""
+        room = Room(self.folder, BUILT, None, 1000.0)
+        environment = mock.patch.dict("os.environ", {"LTM": str(BUILT)})
+        with mock.patch("sys.stderr"), environment, mock.patch.multiple(shapes, **changed):
+            return shapes.table_of(room, names)
+
     @needs_numpy
     @needs_program
-    def test_a_small_one_and_one_that_is_refused(self) -> None:
-        room = Room(self.folder, BUILT, None, 1000.0)
-        with (
-            mock.patch("sys.stderr"),
-            mock.patch.dict("os.environ", {"LTM": str(BUILT)}),
-            mock.patch.object(shapes, "WORDS", (*shapes.WORDS[:-1], "70")),
-        ):
-            small = shapes.table_of(room, ("sioux_falls",))
+    def test_a_small_one(self) -> None:
+        """Its runs are told by the clock with their memory, and below by processor time; those that were measured in
+        the folder are not measured again, but by another program."""
+        words = (*shapes.WORDS[:-1], "70")
+        small = self.measured("sioux_falls", WORDS=words)
         ((name, size, sizes, history, *costs),) = small.rows
         self.assertEqual((name, size, sizes, history), ("sioux_falls", "24, 24, 76", "109, 24, 420", "kept"))
-        self.assertTrue(all(float(cost.split()[0]) > 0 and cost.endswith(" MB") for cost in costs), costs)
-        with mock.patch("sys.stderr"), mock.patch.object(shapes, "WORDS", ("--destinations", "2001")):
-            none = shapes.table_of(room, ("sioux_falls",))
+        for cost in costs:
+            self.assertRegex(cost, r"^[\d.]+ s, \d+ MB$")
+            self.assertGreater(float(cost.split()[0]), 0)
+        self.assertEqual((len(costs), len(small.heads), len(small.remarks)), (5, 9, 2))
+        self.assertRegex(small.remarks[1].splitlines()[2], r"^\| sioux_falls( \| \d[\d.]*){5} \|$")
+        kept = self.folder / "shapes.json"
+        found = json.loads(kept.read_text())
+        del found["told"]["sioux_falls gap"]
+        found["told"]["sioux_falls load"] = ["kept", "kept", ""]
+        kept.write_text(json.dumps(found))
+        again = self.measured("sioux_falls", WORDS=words)
+        self.assertEqual(again.rows[0][5], "kept")
+        self.assertEqual(again.rows[0][6], small.rows[0][6])
+        self.assertRegex(again.rows[0][7], r"^[\d.]+ s, \d+ MB$")
+        kept.write_text(json.dumps({**found, "of": "another program"}))
+        self.assertNotIn("kept", self.measured("sioux_falls", WORDS=words).rows[0][5])
+
+    @needs_program
+    def test_one_that_is_refused_and_one_that_takes_too_long(self) -> None:
+        """Dashes stand behind an import that is refused, and the reason below the table; a run that passes a limit
+        says so, and those behind it are measured all the same."""
+        none = self.measured("sioux_falls", WORDS=("--destinations", "2001"))
         self.assertEqual(none.rows, [("sioux_falls", "24, 24, 76", *["-"] * 7)])
         self.assertEqual(
-            none.remarks[1],
-            "sioux_falls is refused: the import ended with status 1: ltm-tools from-tntp: --destinations is 1 to 2000.",
+            none.remarks[2:],
+            ["sioux_falls, import: ended with status 1: ltm-tools from-tntp: --destinations is 1 to 2000."],
         )
+        (self.folder / "shapes.json").unlink()
+        ends = runs.cost_of
+
+        def late(words: list[str], *more: object, limits: runs.Limits | None = None) -> runs.Cost:
+            if "load" in words:
+                raise runs.PassesLimit("over 900 s")
+            if "assign" in words:
+                raise Fault(f"{words[0]} ended with status 2: no luck")
+            return ends(words, *more, limits=limits)
+
+        table = self.measured("sioux_falls", cost_of=late)
+        _, _, _, _, made, load, delay, gap, assign = table.rows[0]
+        self.assertEqual((load, assign), ("over 900 s", "-"))
+        for cost in (made, delay, gap):
+            self.assertRegex(cost, " s, .* MB$")
+        self.assertRegex(table.remarks[1], r"sioux_falls \| [\d.]+ \| - \| [\d.]+ \| [\d.]+ \| - \|")
+        self.assertEqual(table.remarks[2:], ["sioux_falls, assign: ended with status 2: no luck."])
+
+    def test_one_that_is_not_known(self) -> None:
         with self.assertRaisesRegex(Fault, "paris is no shape: sioux_falls, "):
             shapes.shapes(Room(self.folder, BUILT, None, 1000.0, shapes=("paris",)))
 
@@ -204,16 +270,37 @@ class ThePage(FolderTest):
         self.assertEqual(set(kept), {section.name for section in SECTIONS})
         self.assertEqual(page.text_of(kept, SECTIONS), text)
 
+    def test_readme_shows_what_was_measured(self) -> None:
+        """Its table of sizes is that of the page, for each shape."""
+        text = README.read_text(encoding="utf-8")
+        kept = page.kept_of(measure.PAGE.read_text(encoding="utf-8"), SECTIONS)
+        self.assertEqual(page.copied(text, kept), text)
+        shown = page.kept_of(text, SECTIONS)
+        self.assertEqual(list(shown), ["shapes"])
+        rows = [line.split(" | ")[0] for line in shown["shapes"].splitlines() if line.startswith("| ")]
+        self.assertEqual(rows[2:], [f"| {name}" for name in shapes.made_by().SHAPES])
+
+    def test_an_excerpt_in_another_document(self) -> None:
+        """When a section was measured and its first table, between the marks; the rest stays, and other sections are
+        not shown."""
+        marked = "Before.\n\n<!-- measured: one -->{}<!-- end of one -->\n\nBehind.\n"
+        kept = {"one": "*then*\n\n    words\n\n| a |\n| --- |\n\nAll.\n\n| b |\n| --- |", "two": "*then*\n\n| c |"}
+        text = marked.format("\n\n*then*\n\n| a |\n| --- |\n\n")
+        for old in ("\n\nold\n\n", "\n\n"):
+            self.assertEqual(page.copied(marked.format(old), kept), text)
+        self.assertEqual(page.copied(text, {"two": kept["two"]}), text)
+
     def test_no_other_page_has_times(self) -> None:
-        pages = [CLONE / "README.md", *(CLONE / "docs").glob("*.md"), *(CLONE / "examples").glob("**/*.md")]
+        pages = [README, *(CLONE / "docs").glob("*.md"), *(CLONE / "examples").glob("**/*.md")]
         found = [
             (path.name, match[0])
             for path in pages
             if path.name not in WITH_TIMES
-            for match in TIME.finditer(" ".join(path.read_text(encoding="utf-8").split()))
+            for match in TIME.finditer(" ".join(own_text(path).split()))
         ]
         self.assertEqual(found, [])
         self.assertTrue(TIME.search("it takes 3.5 s of processor time"))
+        self.assertTrue(TIME.search("| city | 3.5 s, 1.2 GB |"))
 
 
 if __name__ == "__main__":

@@ -83,8 +83,9 @@ def carried(raw: Network, options: Options, routes: Callable[[], Iterable[Driven
     network = fit.run() if fit else raw
     faults = arm_faults(network)
     if len(network.roads) > options.most_links:
+        longer = "take a longer step by --fit (--steps shows how many links each leaves), " * (fit is not None)
         faults.append(
-            f"there are {len(network.roads)} links, and at most {options.most_links} may be: cut out a smaller"
+            f"there are {len(network.roads)} links, and at most {options.most_links} may be: {longer}cut out a smaller"
             f" area, or leave out small roads"
         )
     link_names, node_names = names_for(network.roads, options.rename), names_for(network.used_nodes(), options.rename)
