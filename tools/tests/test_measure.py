@@ -1,13 +1,17 @@
 """Tests of tools/measure: what a run costs, the cases that are made, the page, and that no other page has times."""
 import json
 import re
+import signal
+import subprocess
 import sys
 import time
 import unittest
+from collections.abc import Callable
+from pathlib import Path
 from unittest import mock
 
 from made_live import needs_live
-from support import BUILT, CLONE, FolderTest, needs, needs_numpy, needs_program, script
+from support import BUILT, CLONE, TOOLS, FolderTest, needs, needs_numpy, needs_program, script
 from support_documents import own_text
 from ltm_tools.case import Case
 from ltm_tools.errors import Fault
@@ -36,6 +40,14 @@ def table_of(room: Room) -> tables.Table:
 
 ONE = Section("one", "First", "Of one.", table_of)
 TWO = Section("two", "Second", "Of two.", table_of)
+
+
+def has_ended(process: int) -> bool:
+    """Whether a process has ended, though nobody may have asked for its status yet."""
+    try:
+        return Path(f"/proc/{process}/stat").read_text().rpartition(")")[2].split()[0] in "ZX"
+    except OSError:
+        return True
 
 
 class Costs(FolderTest):
@@ -194,6 +206,31 @@ class Shapes(FolderTest):
             self.assertRegex(cost, " s, .* MB$")
         self.assertRegex(table.remarks[1], r"sioux_falls \| [\d.]+ \| - \| [\d.]+ \| [\d.]+ \| - \|")
         self.assertEqual(table.remarks[2:], ["sioux_falls, assign: ended with status 2: no luck."])
+
+    def test_a_measurement_that_is_ended_ends_its_run(self) -> None:
+        """The run of the program, which would take a minute, is gone; what was measured before it is kept."""
+        program = self.program("import os, time\nopen('PID', 'w').write(f'{os.getpid()} ')\ntime.sleep(60)")
+        keep = self.folder / "keep"
+        words = ["shapes", "--shapes", "sioux_falls", "--keep", keep, "--output", self.folder / "page.md"]
+        with subprocess.Popen(
+            [sys.executable, TOOLS / "measure", *words, "--program", program], stderr=subprocess.DEVNULL
+        ) as process:
+            run = keep / "sioux_falls" / "PID"
+            self.wait_for(lambda: run.exists() and run.read_text().endswith(" "))
+            process.terminate()
+            self.assertEqual(process.wait(), 128 + signal.SIGTERM)
+        self.wait_for(lambda: has_ended(int(run.read_text())), 5)
+        self.assertEqual(
+            list(json.loads((keep / "shapes.json").read_text())["told"]), ["sioux_falls import", "sioux_falls sizes"]
+        )
+        self.assertFalse((self.folder / "page.md").exists())
+
+    def wait_for(self, is_so: Callable[[], bool], seconds: float = 60) -> None:
+        """Waits until something is so."""
+        end = time.monotonic() + seconds
+        while not is_so():
+            self.assertLess(time.monotonic(), end)
+            time.sleep(0.05)
 
     def test_one_that_is_not_known(self) -> None:
         with self.assertRaisesRegex(Fault, "paris is no shape: sioux_falls, "):
