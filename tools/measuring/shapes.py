@@ -92,14 +92,14 @@ def shapes(room: Room) -> Table:
 def table_of(room: Room, names: Sequence[str]) -> Table:
     """A row for each of these shapes, with times by the clock; below it their processor times, and the reason where a
     run did not end well."""
-    heads = ("`from-tntp`", *(f"`{word}`" for word in REPORTS), "`assign`, one iteration")
-    table = Table(("shape", "its zones, nodes, links", "links, destinations, slots of the case", "history", *heads))
+    heads = ("import", *(f"`{word}`" for word in REPORTS), "`assign`, one iteration")
+    table = Table(("shape", "zones / nodes / links", "links / destinations / slots of the case", "history", *heads))
     processor, reasons = Table(("shape", *heads)), []
     records, known = Records(room), made_by().SHAPES
     for name in names:
         shape = known[name]
         row = row_of(room, records, name)
-        size = f"{shape.zones:,}, {shape.nodes:,}, {shape.links:,}"
+        size = f"{shape.zones:,} / {shape.nodes:,} / {shape.links:,}"
         table.rows.append((name, size, row.sizes, row.history, *(run.clock for run in row.runs)))
         processor.rows.append((name, *(run.processor for run in row.runs)))
         reasons += [f"{name}, {word}: {run.reason}." for word, run in zip(RUNS, row.runs) if run.reason]
@@ -158,5 +158,5 @@ def sizes_of(case: Path) -> tuple[str, str]:
     """Links, destinations and slots of a case, and whether it keeps a history. Its routes may be millions of rows and
     are not made for that."""
     read = Case.read(case, routes=False)
-    sizes = f"{len(read.links):,}, {len(read.destinations):,}, {read.setup.slots}"
+    sizes = f"{len(read.links):,} / {len(read.destinations):,} / {read.setup.slots:,}"
     return sizes, "kept" if read.setup.history else "none"

@@ -161,7 +161,7 @@ class Shapes(FolderTest):
         words = (*shapes.WORDS[:-1], "70")
         small = self.measured("sioux_falls", WORDS=words)
         ((name, size, sizes, history, *costs),) = small.rows
-        self.assertEqual((name, size, sizes, history), ("sioux_falls", "24, 24, 76", "109, 24, 420", "kept"))
+        self.assertEqual((name, size, sizes, history), ("sioux_falls", "24 / 24 / 76", "109 / 24 / 420", "kept"))
         for cost in costs:
             self.assertRegex(cost, r"^[\d.]+ s, \d+ MB$")
             self.assertGreater(float(cost.split()[0]), 0)
@@ -184,7 +184,7 @@ class Shapes(FolderTest):
         """Dashes stand behind an import that is refused, and the reason below the table; a run that passes a limit
         says so, and those behind it are measured all the same."""
         none = self.measured("sioux_falls", WORDS=("--destinations", "2001"))
-        self.assertEqual(none.rows, [("sioux_falls", "24, 24, 76", *["-"] * 7)])
+        self.assertEqual(none.rows, [("sioux_falls", "24 / 24 / 76", *["-"] * 7)])
         self.assertEqual(
             none.remarks[2:],
             ["sioux_falls, import: ended with status 1: ltm-tools from-tntp: --destinations is 1 to 2000."],
