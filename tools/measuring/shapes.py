@@ -104,9 +104,9 @@ def table_of(room: Room, names: Sequence[str]) -> Table:
         processor.rows.append((name, *(run.processor for run in row.runs)))
         reasons += [f"{name}, {word}: {run.reason}." for word, run in zip(RUNS, row.runs) if run.reason]
     table.remarks = [
-        "Of each run the seconds by the clock, and the most memory that it held with all that it started. A run is ended"
-        f" after {LIMITS.clock:,.0f} s, and when it holds more than {LIMITS.memory / MEGABYTE:g} GB. The same runs in"
-        " seconds of processor time:",
+        "Of each run the seconds by the clock, and the most memory that it held with all that it started. A run is"
+        f" ended after {LIMITS.clock:,.0f} s, or if it holds more than {LIMITS.memory / MEGABYTE:g} GB. The same runs"
+        " in seconds of processor time:",
         processor.text(),
         *reasons,
     ]
