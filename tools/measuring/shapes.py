@@ -5,6 +5,7 @@ from __future__ import annotations
 import importlib.machinery
 import importlib.util
 import json
+import multiprocessing
 import os
 import sys
 from collections.abc import Callable, Sequence
@@ -125,7 +126,7 @@ def row_of(room: Room, records: Records, name: str) -> Row:
     runs = [told("import")]
     if runs[0].processor == DASH:
         return Row(DASH, DASH, runs + [Told(DASH)] * len(RUNS[1:]))
-    sizes, history = records.of_run(f"{name} sizes", lambda: sizes_of(case))
+    sizes, history = records.of_run(f"{name} sizes", lambda: apart(sizes_of, case))
     return Row(sizes, history, runs + [told(word) for word in RUNS[1:]])
 
 
@@ -152,6 +153,12 @@ def run_told(room: Room, words: Sequence[str | Path], case: Path) -> Told:
     except Fault as fault:
         return Told(DASH, reason=str(fault).removeprefix(f"{words[0]} ").replace(str(room.folder), "."))
     return Told(f"{figure(cost.clock)} s, {memory_text(cost.memory)}", figure(cost.seconds))
+
+
+def apart(told: Callable[[Path], tuple[str, str]], case: Path) -> tuple[str, str]:
+    """What is told of a case by a process of its own, so that this one does not hold a city while runs are measured."""
+    with multiprocessing.get_context("fork").Pool(1) as pool:
+        return pool.apply(told, (case,))
 
 
 def sizes_of(case: Path) -> tuple[str, str]:
