@@ -21,7 +21,7 @@ from ltm_tools.replacing import replace
 from .page import commit, described, machine
 from .room import TOOLS, Room
 from .runs import MEGABYTE, Limits, PassesLimit, cost_of
-from .tables import DASH, Table, figure, memory_text
+from .tables import DASH, Table, clock_text, figure, memory_text
 
 MAKE = CLONE / "examples" / "from_tntp" / "shapes.py"
 FIT = ("--fit", "10s", "--length-unit", "km", "--time-unit", "min", "--routes", "1")
@@ -152,7 +152,7 @@ def run_told(room: Room, words: Sequence[str | Path], case: Path) -> Told:
         return Told(str(passes))
     except Fault as fault:
         return Told(DASH, reason=str(fault).removeprefix(f"{words[0]} ").replace(str(room.folder), "."))
-    return Told(f"{figure(cost.clock)} s, {memory_text(cost.memory)}", figure(cost.seconds))
+    return Told(f"{clock_text(cost.clock)}, {memory_text(cost.memory)}", figure(cost.seconds))
 
 
 def apart(told: Callable[[Path], tuple[str, str]], case: Path) -> tuple[str, str]:

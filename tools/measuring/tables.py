@@ -37,6 +37,11 @@ def ratio(ours: float, theirs: float) -> str:
     return f"{ours / theirs:.2f}" if theirs > 0 else DASH
 
 
+def clock_text(seconds: float) -> str:
+    """Seconds by a clock, with two figures, or whole where they have more: the next figure is another one each time."""
+    return f"{seconds:,.0f} s" if seconds >= 10 else f"{seconds:.1f} s" if seconds >= 1 else f"{seconds:.2g} s"
+
+
 def memory_text(megabytes: float) -> str:
     """Memory in MB, or in GB where it is one or more."""
     return f"{megabytes:,.0f} MB" if megabytes < 1024 else f"{megabytes / 1024:.1f} GB"

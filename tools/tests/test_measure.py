@@ -91,6 +91,8 @@ class Costs(FolderTest):
         self.assertEqual(runs.cost_of(burns, limits=runs.Limits(60, 4000)).output, b"burnt\n")
 
     def test_numbers(self) -> None:
+        self.assertEqual([tables.clock_text(value) for value in (1234.5, 12.34, 1.04, 0.0634)],
+                         ["1,234 s", "12 s", "1.0 s", "0.063 s"])  # fmt: skip
         self.assertEqual([tables.memory_text(value) for value in (8.4, 1023.4, 1536)], ["8 MB", "1,023 MB", "1.5 GB"])
         self.assertEqual([tables.figure(value) for value in (1234.5, 12.34, 1.234, 0.0123)],
                          ["1,234", "12.3", "1.23", "0.012"])  # fmt: skip

@@ -2,8 +2,7 @@
 
 Held here are decimals of four digits and more, and those of three digits with a unit behind them, without the zeros
 around them; shorter ones meet by chance. A number within an output that a test runs cannot go stale, nor can the words
-of the same document about it; so two documents may show the same output. A table that tools/measure copies into another
-document goes stale in neither."""
+of the same document about it; so two documents may show the same output."""
 import re
 import unittest
 from collections import defaultdict
@@ -70,7 +69,7 @@ class Numbers(unittest.TestCase):
     maxDiff = None
 
     def test_none_stands_in_two_documents(self) -> None:
-        texts = {str(path.relative_to(CLONE)): documents.own_text(path) for path in read()}
+        texts = {str(path.relative_to(CLONE)): path.read_text(encoding="utf-8") for path in read()}
         found = dict(twice(texts))
         self.assertEqual({number: names for number, names in found.items() if number not in EXCEPT}, {})
         self.assertEqual(set(EXCEPT) - set(found), set(), "no longer needed")
