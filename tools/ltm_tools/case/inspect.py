@@ -1,5 +1,5 @@
 """What a case has, and what is to be known before it is run."""
-from collections.abc import Mapping
+from collections.abc import Mapping, Sequence
 from dataclasses import replace
 from functools import partial
 
@@ -27,7 +27,7 @@ from .fields import fetch, read_header
 from .flooring import flooring_lines, pulse_lines
 from .history import to_have_one
 from .inspect_origins import MOST_TOLD, more_line, origin_lines, pushing_lines
-from .matrix import read_profile
+from .matrix import is_matrix, read_profile
 from .reading import Reader, read_setup
 from .rounding import red_lines, rounding_lines
 from .routes import give_routes, missing_rows
@@ -92,7 +92,7 @@ def inspect(folder: str) -> list[str]:
     except Fault:
         pass
     else:
-        told = [*size_lines(case), *step_lines(case, streets), *way_lines(case, streets)]
+        told = [*size_lines(case, matrix_lines(folder, case)), *step_lines(case, streets), *way_lines(case, streets)]
         told += [*rounding_lines(case, streets), *red_lines(case, streets)]
     return told + refusal_lines(folder, refusal)
 
@@ -122,8 +122,23 @@ def refusal_lines(folder: str, refusal: Fault | None) -> list[str]:
     return [f"load        would refuse it first for: {line}{refusal}"]
 
 
-def size_lines(case: Case) -> list[str]:
-    """What the case has, and its cells."""
+def matrix_lines(folder: str, case: Case) -> list[str]:
+    """That the demand of a case stands as a matrix, and what that means; nothing where it has rows, or a faulty
+    profile."""
+    try:
+        if not is_matrix(fetch(folder, "demand", case.setup.most_file_bytes)):
+            return []
+        slices = read_profile(fetch(folder, "profile"), case.setup.slots)
+    except Fault:
+        return []
+    return [
+        "matrix      demand.csv has one record for each pair of origin and destination, and profile.csv says when the"
+        f" vehicles of all of them set out, in {counted(len(slices), 'slice')} of slots"
+    ]
+
+
+def size_lines(case: Case, matrix: Sequence[str] = ()) -> list[str]:
+    """What the case has, with these lines on its matrix, and its cells."""
     setup, demand = case.setup, case.standing_demand()
     span = ""
     if demand:
@@ -134,6 +149,7 @@ def size_lines(case: Case) -> list[str]:
         f" {counted(len(case.destinations), 'destination')}",
         f"demand      {vehicles_text(sum(row.units for row in demand))} vehicles in {counted(len(demand), 'row')}"
         + span,
+        *matrix,
         f"splits      {splits_told(case)}",
         f"horizon     {clock_text(setup.horizon_ms)}, {counted(setup.slots, 'slot')} of {setup.step_ms} ms",
         *(cell_lines(case) if setup.history else no_history_lines(case)),

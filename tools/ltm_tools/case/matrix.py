@@ -1,13 +1,24 @@
 """A demand that stands as a matrix: one record for each origin and destination, which is split over the slices of a
-profile (docs/FORMATS.md)."""
-from collections.abc import Iterator, Sequence
+profile (docs/FORMATS.md). It is read, and found in rows of demand that say the same."""
+from __future__ import annotations
+
+import os
+import re
+from collections.abc import Iterable, Iterator, Sequence
 from dataclasses import dataclass
-from itertools import accumulate
+from fractions import Fraction
+from itertools import accumulate, groupby
+from math import ceil, lcm
 
 from ..files import records
-from ..formats import MATRIX, MOST_SHARE
+from ..formats import MATRIX, MOST_SHARE, MOST_SLOTS, MOST_UNITS, PROFILE, QUOTE
 from . import bad_case
 from .fields import check_width, read_header, whole_in
+from .rows import Demand
+
+PROFILE_FILE = "profile.csv"
+FIRST_LINE = re.compile(rb"(?:\xef\xbb\xbf)?[\r\n]*[^\r\n]+")
+MOST_SHARES = MOST_SHARE * MOST_SLOTS  # of all slices
 
 
 @dataclass(frozen=True, slots=True)
@@ -21,8 +32,24 @@ class Slice:
 
 def is_matrix(demand: bytes) -> bool:
     """Whether the bytes of a `demand.csv` begin with the header of a matrix."""
-    first = next(iter(records(demand)), None)
-    return first is not None and tuple(first.fields) == MATRIX
+    return header_of(demand) == MATRIX
+
+
+def has_profile(folder: str | os.PathLike[str]) -> bool:
+    """Whether a folder has the `profile.csv` of a matrix, and no file of others that is called so."""
+    try:
+        with open(os.path.join(folder, PROFILE_FILE), "rb") as file:
+            return header_of(file.read()) == PROFILE
+    except OSError:
+        return False
+
+
+def header_of(data: bytes) -> tuple[str, ...]:
+    """The fields of the first record of a file, of which no more is cut into records than its line, but for quotes."""
+    line = FIRST_LINE.match(data)
+    is_plain = line is not None and QUOTE.encode() not in line[0]
+    first = next(records(line[0] if line is not None and is_plain else data), None)
+    return () if first is None else tuple(first.fields)
 
 
 def read_profile(data: bytes, slots: int) -> list[Slice]:
@@ -52,3 +79,106 @@ def parts(units: int, slices: Sequence[Slice]) -> Iterator[int]:
     for shares in accumulate(part.share for part in slices):
         before, given = given, units * shares // total
         yield given - before
+
+
+@dataclass(frozen=True, slots=True)
+class Matrix:
+    """Rows of demand that a matrix says, and the slices of its profile."""
+
+    slices: Sequence[Slice]
+    rows: Sequence[Demand]
+
+    def pairs(self) -> Iterator[tuple[str, str, int]]:
+        """The records: an origin, a destination, and the amount that is split over all slices."""
+        if len(self.slices) == 1:
+            return ((row.origin, row.destination, row.units) for row in self.rows)
+        return ((*ends, sum(row.units for row in of)) for ends, of in groupby(self.rows, ends_of))
+
+
+def ends_of(row: Demand) -> tuple[str, str]:
+    """The origin and the destination of a row."""
+    return row.origin, row.destination
+
+
+def as_matrix(rows: Sequence[Demand]) -> Matrix | None:
+    """The matrix that says exactly these rows, in their order but for those of 0; None where there is none. The rows of
+    a pair stand together then, and all pairs are split by the same shares."""
+    spans = sorted({(row.from_slot, row.to_slot) for row in rows if row.units})
+    if not spans or any(first < end for (_, end), (first, _) in zip(spans, spans[1:])):
+        return None
+    if len(spans) == 1:  # a record is a row, also one of 0, or of a pair that comes again
+        shares = [1] if all((row.from_slot, row.to_slot) == spans[0] for row in rows) else []
+    else:
+        shares = shares_of(rows, {span: place for place, span in enumerate(spans)})
+    if not shares or max(shares) > MOST_SHARE:
+        return None
+    return Matrix([Slice(*span, share) for span, share in zip(spans, shares)], rows)
+
+
+def shares_of(rows: Iterable[Demand], places: dict[tuple[int, int], int]) -> list[int]:
+    """The shares of slices, at these places in order, by which all pairs are split; none where there are none."""
+    bounds = [Bounds() for _ in range(len(places) - 1)]
+    met: dict[str, set[str]] = {}
+    for (origin, destination), of in groupby(rows, ends_of):
+        given = given_in_order(of, places)
+        ends = met.setdefault(origin, set())
+        if given is None or given[-1] > MOST_UNITS or destination in ends:
+            return []
+        ends.add(destination)
+        if given[-1] and not all(bound.narrow(upto, given[-1]) for bound, upto in zip(bounds, given)):
+            return []
+    return whole_shares([bound.ends() for bound in bounds])
+
+
+def given_in_order(rows: Iterable[Demand], places: dict[tuple[int, int], int]) -> list[int] | None:
+    """What the slices up to each one get of the rows of a pair; None where these are not in order."""
+    each, next_place = [0] * len(places), 0
+    for row in rows:
+        place = places.get((row.from_slot, row.to_slot))
+        if place is None:  # a row of 0 in slots in which no pair has any
+            continue
+        if place < next_place:
+            return None
+        each[place], next_place = row.units, place + 1
+    return list(accumulate(each))
+
+
+class Bounds:
+    """The parts of the whole that the slices up to one can have: at least one number, and below another."""
+
+    def __init__(self) -> None:
+        self.least, self.of_least = 0, 1  # numerators and denominators, which are quicker than fractions
+        self.below, self.of_below = 1, 1
+
+    def narrow(self, given: int, units: int) -> bool:
+        """Lets only those parts be which, rounded down, give so much of an amount; whether any is left."""
+        if given * self.of_least > self.least * units:
+            self.least, self.of_least = given, units
+        if (given + 1) * self.of_below < self.below * units:
+            self.below, self.of_below = given + 1, units
+        return self.least * self.of_below < self.below * self.of_least
+
+    def ends(self) -> tuple[Fraction, Fraction]:
+        """The least part, and the one below which they are."""
+        return Fraction(self.least, self.of_least), Fraction(self.below, self.of_below)
+
+
+def whole_shares(bounds: Sequence[tuple[Fraction, Fraction]]) -> list[int]:
+    """Whole numbers of which those up to each place but the last are parts within these bounds, as small as they are
+    found: narrow bounds leave few totals, and wide ones mostly take these."""
+    total, widths = 1, [below - least for least, below in bounds]
+    for _, (least, below) in sorted(zip(widths, bounds)):
+        if ceil(least * total) >= below * total:
+            most = below - Fraction(1, MOST_SHARES * below.denominator)  # no part of so many shares lies between
+            total = lcm(total, simplest(least, most).denominator)
+    total = min(total, ceil(1 / min(widths)))  # so many parts lie so near that each bound has one
+    upto = [0, *(ceil(least * total) for least, _ in bounds), total]
+    return [after - before for before, after in zip(upto, upto[1:])]
+
+
+def simplest(least: Fraction, most: Fraction) -> Fraction:
+    """The fraction of smallest denominator from one to another."""
+    whole = ceil(least)
+    if whole <= most:
+        return Fraction(whole)
+    return whole - 1 + 1 / simplest(1 / (most - whole + 1), 1 / (least - whole + 1))

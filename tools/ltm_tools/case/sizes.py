@@ -20,6 +20,7 @@ from ..formats import (
 )
 from .cells import ask_for_cells, cells_advice
 from .history import is_city, too_large
+from .matrix import Matrix, as_matrix
 from .rows import Rows
 from .valid import leading_of, route_rows
 from .writing import demand_bytes, split_bytes
@@ -60,7 +61,9 @@ def ask_for_sizes(
     if case.splits is None and (not setup.history and is_city(case, max(rows)) if routes is None else routes):
         setup.routes, case.splits = True, []
         told.append(routes_line(case, rows[1], routes is None))
-    told += ask_for_rows(case, rows[0], 0 if setup.routes else rows[1])
+    matrix = None if setup.history else as_matrix(case.demand)
+    told += [] if matrix is None else [matrix_line(matrix, rows[0])]
+    told += ask_for_rows(case, rows[0], 0 if setup.routes else rows[1], matrix)
     setup.moves = ends > MOVES_ABOVE if moves is None else moves
     if setup.moves and moves is None:
         told.append(
@@ -93,6 +96,16 @@ def session_advice(case: Rows) -> str:
         more = f", or {MOST_DESTINATIONS_ASKED} with a longer step or a shorter horizon"
         return f"give --destinations {fitting}{more if fitting < MOST_DESTINATIONS_ASKED else ''}"
     return f"take a smaller area, or a longer step and at most {MOST_DESTINATIONS_ASKED} destinations"
+
+
+def matrix_line(matrix: Matrix, rows: int) -> str:
+    """That the demand is written as a matrix, and what that means."""
+    pairs, slices = sum(1 for _ in matrix.pairs()), len(matrix.slices)
+    return (
+        f"as the case keeps no history, its demand is a matrix: demand.csv has one record for each of"
+        f" {counted(pairs, 'pair')} of origin and destination, and profile.csv says when the vehicles of all of them set"
+        f" out, in {counted(slices, 'slice')} of slots; ltm and all tools read this as {counted(rows, 'row')}"
+    )
 
 
 def rows_needed(case: Rows) -> tuple[int, int]:
@@ -132,9 +145,9 @@ def route_bytes(case: Rows) -> int:
     )
 
 
-def ask_for_rows(case: Rows, demand: int, splits: int) -> list[str]:
-    """The line on the column `rows` for so many rows of demand and of splits or routes; none where it is not needed.
-    What it asks for is never less than may be without it."""
+def ask_for_rows(case: Rows, demand: int, splits: int, matrix: Matrix | None = None) -> list[str]:
+    """The line on the column `rows` for so many rows of demand, which may be written as a matrix, and of splits or
+    routes; none where it is not needed. What it asks for is never less than may be without it."""
     most = case.setup.rows_asked
     if demand <= MOST_DEMAND_ROWS and splits <= MOST_SPLIT_ROWS:
         return []
@@ -149,7 +162,7 @@ def ask_for_rows(case: Rows, demand: int, splits: int) -> list[str]:
     split_size = route_bytes(case) if routes else split_bytes(case)
     large = MOST_FILE_BYTES if case.setup.history else MOST_LARGE_FILE_BYTES
     files = (
-        ("demand", demand_bytes(case), large, READ),
+        ("demand", demand_bytes(case, matrix), large, READ),
         ("splits", split_size, *((MOST_FILE_BYTES, "are written by ltm routes") if routes else (large, READ))),
     )
     for file, size, most, why in files:

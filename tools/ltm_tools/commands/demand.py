@@ -63,7 +63,7 @@ def run(args: argparse.Namespace) -> int:
     )
     notes += left_out
     with together():
-        write_demand(args.case, rows)
+        write_demand(args.case, rows, case.setup)
         if start is not None:
             write_clock(args.case, start)
     ends = {row.destination for row in rows}

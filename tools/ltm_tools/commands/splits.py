@@ -93,7 +93,7 @@ def of_routes(case: Case, roads: Roads, source: Source, args: argparse.Namespace
     slice_slots = slots_of(args.slice, case.setup.step_ms)
     if args.demand:
         case.demand = demand_of_routes(found.routes, roads, case.setup, slice_slots)
-        write_demand(args.case, case.demand)
+        write_demand(args.case, case.demand, case.setup)
         units = sum(row.units for row in case.demand)
         notes.append(f"{short_vehicles(units)} vehicles of demand in {len(case.demand)} rows")
     rows, cuts = from_routes(

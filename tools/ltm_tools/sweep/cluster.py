@@ -16,6 +16,7 @@ from typing import Any
 
 from ..case import Case
 from ..case.fields import fetch
+from ..case.matrix import is_matrix
 from ..errors import Fault
 from ..program import find_program
 from .here import Found, Kept
@@ -44,7 +45,8 @@ def case_bytes(folder: str) -> dict[str, bytes]:
         *(["signals"] if setup.signals else []),
         *(["limits"] if setup.limits else []),
     ]
-    return {file: fetch(folder, file) for file in files}
+    found = {file: fetch(folder, file) for file in files}
+    return {**found, "profile": fetch(folder, "profile")} if is_matrix(found["demand"]) else found
 
 
 def case_files(files: dict[str, bytes]) -> dict[str, bytes]:
