@@ -563,6 +563,26 @@ class InTime(GmnsTest):
             [(row.from_slot, row.to_slot, row.units) for row in rows], [(0, 30, 3334), (30, 60, 3333), (60, 90, 3333)]
         )
 
+    def test_a_matrix_over_a_profile(self) -> None:
+        """Of a case without history, where all pairs are split alike: thirds of 5 and of 10 vehicles are not."""
+        profile = self.folder / "profile.csv"
+        words = "--profile", str(profile), "--step", "30s", "--history", "0"
+        self.net(PLAIN, demand="o_zone_id,d_zone_id,volume\n1,3,10\n1,2,5\n")
+        profile.write_text("from,to,share\n7:00,7:15,0.25\n7:30,7:45,0.75\n")
+        rows = self.made(*words).demand
+        self.assertEqual(
+            [(row.destination, row.from_slot, row.to_slot, row.units) for row in rows],
+            [("3", 0, 30, 2500), ("3", 60, 90, 7500), ("2", 0, 30, 1250), ("2", 60, 90, 3750)],
+        )
+        case = self.folder / "case"
+        self.assertEqual((case / "demand.csv").read_text(), "origin,destination,vehicles\n1,3,10\n1,2,5\n")
+        self.assertEqual((case / "profile.csv").read_text(), "from_slot,to_slot,share\n0,30,1\n60,90,3\n")
+        self.assertIn("in 2 slices of slots; ltm and all tools read this as 4 rows\n", self.out)
+        profile.write_text("from,to,share\n7:00,7:15,1\n7:15,7:30,1\n7:30,7:45,1\n")
+        self.assertEqual([row.units for row in self.made(*words).demand], [3334, 3333, 3333, 1667, 1667, 1666])
+        self.assertFalse((case / "profile.csv").exists())
+        self.assertNotIn("matrix", self.out)
+
     def test_a_period_longer_than_the_horizon(self) -> None:
         self.net(PLAIN, demand="o_zone_id,d_zone_id,volume\n1,3,10\n")
         self.assertIn(

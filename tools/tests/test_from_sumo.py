@@ -313,6 +313,19 @@ class Vehicles(SumoTest):
         )
         self.assertEqual([row.units for row in case.demand], [2000] * 4)
 
+    def test_a_matrix_without_history(self) -> None:
+        """Of vehicles that set out alike; where those of one route set out in other slices there are rows."""
+        flow = '<flow id="{}" begin="0" end="{}" number="8" from="in" to="{}"/>'
+        alike, case = flow.format("f", 1200, "on") + flow.format("g", 1200, "left#1"), self.folder / "case"
+        rows = self.made("--demand-slice", "10", routes=alike).demand
+        self.assertEqual(self.made("--demand-slice", "10", "--history", "0", routes=alike).demand, rows)
+        self.assertEqual((case / "demand.csv").read_text(), "origin,destination,vehicles\nA,C,8\nA,D,8\n")
+        self.assertIn("in 2 slices of slots; ltm and all tools read this as 4 rows\n", self.out)
+        other = flow.format("f", 1200, "on") + flow.format("g", 2400, "left#1")
+        rows = self.made("--demand-slice", "10", "--history", "0", routes=other).demand
+        self.assertEqual([row.units for row in rows], [4000, 4000, 2000, 2000, 2000, 2000])
+        self.assertFalse((case / "profile.csv").exists())
+
     def test_begin_and_end(self) -> None:
         text = "".join(
             f'<vehicle id="{time}" depart="{time}"><route edges="in on"/></vehicle>'

@@ -141,6 +141,18 @@ class Zones(TntpTest):
             "small enough for a history: the column history of setup.csv is 0 all the same, with which load", self.out
         )
 
+    def test_a_demand_without_history_is_a_matrix(self) -> None:
+        """It reads as the rows that stand with a history, and its profile goes with it."""
+        case, rows = self.folder / "case", self.made("--length-unit", "km").demand
+        self.assertEqual(self.made("--length-unit", "km", "--history", "0").demand, rows)
+        self.assertEqual((case / "demand.csv").read_text(), "origin,destination,vehicles\n1,2_end,300.5\n2,1_end,20\n")
+        self.assertEqual((case / "profile.csv").read_text(), "from_slot,to_slot,share\n0,720,1\n")
+        self.assertIn("demand.csv has one record for each of 2 pairs of origin and destination, and", self.out)
+        self.assertIn("set out, in 1 slice of slots; ltm and all tools read this as 2 rows\n", self.out)
+        self.assertEqual(self.made("--length-unit", "km").demand, rows)
+        self.assertFalse((case / "profile.csv").exists())
+        self.assertNotIn("matrix", self.out)
+
     def test_trips_over_a_period_and_scaled(self) -> None:
         case = self.made("--length-unit", "km", "--period", "30", "--scale", "0.5")
         # 30 minutes are 360 slots of 5 s

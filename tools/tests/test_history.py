@@ -1,21 +1,16 @@
 """Commands over a case that keeps no history (`history` 0 in `setup.csv`): those that need no more than `ltm totals`
 and the other words that answer write the same as with a history, and the others say in one line why they cannot."""
-import contextlib
-import os
 import re
-import shlex
 import unittest
 from collections.abc import Iterator
-from pathlib import Path
 from unittest import mock
 
-import commands
-from stage import CURVES, RUNS, Run, set_up
+from stage import RUNS, Run
 from support import EXAMPLES, FolderTest, needs, needs_program
+from support_runs import RunsTest, begins, runs, without_history
 from ltm_tools.case import Case, Demand, Link, Setup, Split, history
 from ltm_tools.case.history import NoHistory, check_history, keeping_one, to_have_one, too_large
 from ltm_tools.errors import Fault
-from ltm_tools.libraries import missing
 from ltm_tools.loading.loaded import loaded
 from ltm_tools.loading.sides import totals_at_end
 from ltm_tools.loading.totals import written_totals
@@ -41,54 +36,10 @@ NOT_LOADED = ("from-", "demand", "splits", "signals case", "turns", "explain", "
 SECONDS = re.compile(r" +[0-9.]+$", re.MULTILINE)
 
 
-def without_history(folder: Path) -> None:
-    """Lets a case keep no history."""
-    path = folder / "setup.csv"
-    header, row = path.read_text().split()
-    path.write_text(f"{header},history\n{row},0\n")
-
-
-def begins(run: Run, *words: str) -> bool:
-    """Whether a run begins with one of these."""
-    return run.words.startswith(words)
-
-
-@contextlib.contextmanager
-def in_folder(folder: Path) -> Iterator[None]:
-    """Works in a folder."""
-    was = os.getcwd()
-    os.chdir(folder)
-    try:
-        yield
-    finally:
-        os.chdir(was)
-
-
-class Commands(FolderTest):
-    def told(self, run: Run, history: bool) -> tuple[int, str, str, dict[str, bytes]]:
-        """The status of a command, what it writes, and its files, of cases with a history or without one, loaded by the
-        program."""
-        words = run.words.replace(CURVES, "").replace("--other-curves other/curves.csv", "")
-        folder = self.folder / f"{len(list(self.folder.iterdir()))}"
-        folder.mkdir()
-        set_up(folder)
-        for case in ("case", "other", "turning"):
-            (folder / case / "curves.csv").unlink(missing_ok=True)
-            if not history:
-                without_history(folder / case)
-        before = set(folder.rglob("*"))
-        with in_folder(folder):
-            told = commands.run(*shlex.split(words))
-        made = [path for path in folder.rglob("*") if path.is_file() and path not in before]
-        return (*told, {str(path.relative_to(folder)): path.read_bytes() for path in made})
-
-    def runs(self, *words: str) -> list[Run]:
-        """The runs that begin so, for which all is installed."""
-        return [
-            run
-            for run in RUNS
-            if begins(run, *words) and not missing([need for need in run.needs if need != "program"])
-        ]
+class Commands(RunsTest):
+    def of_each(self, run: Run) -> Iterator[tuple[int, str, str, dict[str, bytes]]]:
+        """What a command does over cases with a history, and without one."""
+        return (self.told(run, change) for change in (lambda case: None, without_history))
 
     def test_each_run_is_tested(self) -> None:
         for run in RUNS:
@@ -99,9 +50,9 @@ class Commands(FolderTest):
     @needs_program
     def test_those_that_answer(self) -> None:
         """The text and the files are the same, byte for byte; of `inspect` all but the lines on size."""
-        for run in self.runs(*ANSWER):
+        for run in runs(*ANSWER):
             with self.subTest(run.words):
-                one, other = self.told(run, True), self.told(run, False)
+                one, other = self.of_each(run)
                 self.assertEqual((one[0], other[0]), (0, 0), other[2])
                 if begins(run, "inspect"):
                     continue
@@ -112,9 +63,9 @@ class Commands(FolderTest):
     @needs("python3-numpy")
     def test_those_that_assign(self) -> None:
         """The shares are the same, and so are the lines but for seconds."""
-        for run in self.runs(*ASSIGN):
+        for run in runs(*ASSIGN):
             with self.subTest(run.words):
-                one, other = self.told(run, True), self.told(run, False)
+                one, other = self.of_each(run)
                 self.assertEqual((one[0], other[0]), (0, 0), other[2])
                 self.assertEqual(
                     SECONDS.sub("", one[1]).split("have not")[0], SECONDS.sub("", other[1]).split("have not")[0]
@@ -124,9 +75,9 @@ class Commands(FolderTest):
 
     @needs_program
     def test_those_that_cannot(self) -> None:
-        for run in self.runs(*REFUSE):
+        for run in runs(*REFUSE):
             with self.subTest(run.words):
-                one, other = self.told(run, True), self.told(run, False)
+                one, other = self.of_each(run)
                 self.assertEqual(one[0], 0, one[2])
                 self.assertEqual((other[0], other[1], other[3]), (1, "", {}))
                 self.assertRegex(
@@ -138,9 +89,9 @@ class Commands(FolderTest):
     @needs_program
     @needs("python3-tornado")
     def test_live(self) -> None:
-        for run in self.runs("live"):
+        for run in runs("live"):
             with mock.patch("webbrowser.open", side_effect=KeyboardInterrupt):
-                status, out, err, made = self.told(run, False)
+                status, out, err, made = self.told(run, without_history)
             self.assertEqual((status, out, made), (1, "", {}))
             self.assertIn(
                 "case keeps no history of its loading (history is 0 in setup.csv), and the live map needs one", err

@@ -6,19 +6,16 @@ import os
 import re
 from collections.abc import Iterable, Iterator, Sequence
 from dataclasses import dataclass
-from fractions import Fraction
 from itertools import accumulate, groupby
-from math import ceil, lcm
 
 from ..files import records
-from ..formats import MATRIX, MOST_SHARE, MOST_SLOTS, MOST_UNITS, PROFILE, QUOTE
+from ..formats import MATRIX, MOST_SHARE, MOST_UNITS, PROFILE, QUOTE
 from . import bad_case
 from .fields import check_width, read_header, whole_in
 from .rows import Demand
 
 PROFILE_FILE = "profile.csv"
 FIRST_LINE = re.compile(rb"(?:\xef\xbb\xbf)?[\r\n]*[^\r\n]+")
-MOST_SHARES = MOST_SHARE * MOST_SLOTS  # of all slices
 
 
 @dataclass(frozen=True, slots=True)
@@ -102,17 +99,15 @@ def ends_of(row: Demand) -> tuple[str, str]:
 
 def as_matrix(rows: Sequence[Demand]) -> Matrix | None:
     """The matrix that says exactly these rows, in their order but for those of 0; None where there is none. The rows of
-    a pair stand together then, and all pairs are split by the same shares."""
+    a pair stand together then, and all pairs are split by the same shares, which sum to a million at most."""
     spans = sorted({(row.from_slot, row.to_slot) for row in rows if row.units})
-    if not spans or any(first < end for (_, end), (first, _) in zip(spans, spans[1:])):
+    if any(first < end for (_, end), (first, _) in zip(spans, spans[1:])):
         return None
     if len(spans) == 1:  # a record is a row, also one of 0, or of a pair that comes again
         shares = [1] if all((row.from_slot, row.to_slot) == spans[0] for row in rows) else []
     else:
-        shares = shares_of(rows, {span: place for place, span in enumerate(spans)})
-    if not shares or max(shares) > MOST_SHARE:
-        return None
-    return Matrix([Slice(*span, share) for span, share in zip(spans, shares)], rows)
+        shares = shares_of(rows, {span: place for place, span in enumerate(spans)}) if spans else []
+    return Matrix([Slice(*span, share) for span, share in zip(spans, shares)], rows) if shares else None
 
 
 def shares_of(rows: Iterable[Demand], places: dict[tuple[int, int], int]) -> list[int]:
@@ -120,14 +115,13 @@ def shares_of(rows: Iterable[Demand], places: dict[tuple[int, int], int]) -> lis
     bounds = [Bounds() for _ in range(len(places) - 1)]
     met: dict[str, set[str]] = {}
     for (origin, destination), of in groupby(rows, ends_of):
-        given = given_in_order(of, places)
-        ends = met.setdefault(origin, set())
+        given, ends = given_in_order(of, places), met.setdefault(origin, set())
         if given is None or given[-1] > MOST_UNITS or destination in ends:
             return []
         ends.add(destination)
         if given[-1] and not all(bound.narrow(upto, given[-1]) for bound, upto in zip(bounds, given)):
             return []
-    return whole_shares([bound.ends() for bound in bounds])
+    return whole_shares(bounds)
 
 
 def given_in_order(rows: Iterable[Demand], places: dict[tuple[int, int], int]) -> list[int] | None:
@@ -144,10 +138,11 @@ def given_in_order(rows: Iterable[Demand], places: dict[tuple[int, int], int]) -
 
 
 class Bounds:
-    """The parts of the whole that the slices up to one can have: at least one number, and below another."""
+    """The parts of all shares that those up to a slice can be: at least one number, and below another. Both are kept
+    as numerators and denominators, which are quicker than fractions."""
 
     def __init__(self) -> None:
-        self.least, self.of_least = 0, 1  # numerators and denominators, which are quicker than fractions
+        self.least, self.of_least = 0, 1
         self.below, self.of_below = 1, 1
 
     def narrow(self, given: int, units: int) -> bool:
@@ -158,27 +153,25 @@ class Bounds:
             self.below, self.of_below = given + 1, units
         return self.least * self.of_below < self.below * self.of_least
 
-    def ends(self) -> tuple[Fraction, Fraction]:
-        """The least part, and the one below which they are."""
-        return Fraction(self.least, self.of_least), Fraction(self.below, self.of_below)
+    def upto(self, total: int) -> int:
+        """The least whole number that is at least such a part of a total."""
+        return -(-self.least * total // self.of_least)
+
+    def fits(self, total: int) -> bool:
+        """Whether a whole number is such a part of a total."""
+        return self.upto(total) * self.of_below < self.below * total
+
+    @property
+    def width(self) -> float:
+        """How far apart both are."""
+        return self.below / self.of_below - self.least / self.of_least
 
 
-def whole_shares(bounds: Sequence[tuple[Fraction, Fraction]]) -> list[int]:
-    """Whole numbers of which those up to each place but the last are parts within these bounds, as small as they are
-    found: narrow bounds leave few totals, and wide ones mostly take these."""
-    total, widths = 1, [below - least for least, below in bounds]
-    for _, (least, below) in sorted(zip(widths, bounds)):
-        if ceil(least * total) >= below * total:
-            most = below - Fraction(1, MOST_SHARES * below.denominator)  # no part of so many shares lies between
-            total = lcm(total, simplest(least, most).denominator)
-    total = min(total, ceil(1 / min(widths)))  # so many parts lie so near that each bound has one
-    upto = [0, *(ceil(least * total) for least, _ in bounds), total]
-    return [after - before for before, after in zip(upto, upto[1:])]
-
-
-def simplest(least: Fraction, most: Fraction) -> Fraction:
-    """The fraction of smallest denominator from one to another."""
-    whole = ceil(least)
-    if whole <= most:
-        return Fraction(whole)
-    return whole - 1 + 1 / simplest(1 / (most - whole + 1), 1 / (least - whole + 1))
+def whole_shares(bounds: Sequence[Bounds]) -> list[int]:
+    """The shares with the least sum of which those up to each slice but the last are parts within these bounds; none
+    where they would sum to more than a share may be."""
+    narrowest_first = sorted(bounds, key=lambda bound: bound.width)
+    totals = (total for total in range(1, MOST_SHARE + 1) if all(bound.fits(total) for bound in narrowest_first))
+    total = next(totals, 0)
+    upto = [0, *(bound.upto(total) for bound in bounds), total]
+    return [after - before for before, after in zip(upto, upto[1:])] if total else []
