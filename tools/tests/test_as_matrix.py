@@ -259,7 +259,7 @@ n1,n4,3,6,1
 n2,n3,0,3,0.233
 n2,n3,3,6,0.467
 """
-SECONDS = re.compile(r" +[0-9.]+$", re.MULTILINE)
+SECONDS = re.compile(r" +[0-9.]+(?=$|  (?:prior|less|shares|responses)$)", re.MULTILINE)
 REWRITE = ("demand", "splits case --routes", "signals", "turns", "apply", "cut", "assign", "calibrate")
 """How the commands begin that write a demand."""
 
