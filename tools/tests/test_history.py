@@ -3,12 +3,13 @@ and the other words that answer write the same as with a history, and the others
 import re
 import unittest
 from collections.abc import Iterator
+from pathlib import Path
 from unittest import mock
 
 from stage import RUNS, Run
 from support import EXAMPLES, FolderTest, needs, needs_program
 from support_runs import RunsTest, begins, runs, without_history
-from ltm_tools.case import Case, Demand, Link, Setup, Split, history
+from ltm_tools.case import Case, Demand, Link, Setup, Split, history, reading
 from ltm_tools.case.history import NoHistory, check_history, keeping_one, to_have_one, too_large
 from ltm_tools.errors import Fault
 from ltm_tools.loading.loaded import loaded
@@ -85,6 +86,30 @@ class Commands(RunsTest):
                     r"\Altm-tools [a-z]+: \S+ keeps no history of its loading \(history is 0 in setup.csv\), and a"
                     r" session needs one. It is small enough to keep one: remove the column history from setup.csv\n\Z",
                 )
+
+    @needs_program
+    def test_they_cannot_before_routes_are_made(self) -> None:
+        """Of a city these are millions, and the refusal does not wait for them."""
+
+        def change(case: Path) -> None:
+            without_history(case)
+            header, row = (case / "setup.csv").read_text().split()
+            (case / "setup.csv").write_text(f"{header},routes\n{row},1\n")
+
+        for run in runs(*REFUSE, "live"):
+            with self.subTest(run.words), mock.patch.object(reading, "give_routes", side_effect=AssertionError):
+                status, _, err, _ = self.told(run, change)
+                self.assertEqual((status, "keeps no history of its loading" in err), (1, True), err)
+
+    def test_a_curve_file_that_is_not_there(self) -> None:
+        """A case with a history is told what writes it, and one without what would let it have one."""
+        for run in runs("plot"):
+            with self.subTest(run.words):
+                one, other = self.of_each(run)
+                self.assertEqual((one[0], other[0]), (1, 1))
+                told = "ltm-tools plot: curves.csv is not there: ./ltm case curves >case/curves.csv writes it\n"
+                self.assertEqual(one[2], told)
+                self.assertIn("and a curve file needs one. It is small enough to keep one: remove", other[2])
 
     @needs_program
     @needs("python3-tornado")

@@ -5,6 +5,7 @@ import argparse
 import sys
 
 from ..case import Case
+from ..case.history import check_history_of
 from ..errors import Fault
 from ..files import shown
 from ..scenario.scripts import script_batches
@@ -31,6 +32,7 @@ def add_arguments(parser: argparse.ArgumentParser) -> None:
 
 
 def run(args: argparse.Namespace) -> int:
+    check_history_of(args.case, "a session")  # before the routes of a city are made
     case = Case.read(args.case)
     if case.splits is None:
         raise Fault(f"{args.case} has no splits.csv, so it has no loading and takes no edits")

@@ -12,7 +12,7 @@ from typing import TYPE_CHECKING
 
 from ..case import Case
 from ..case.clock import start_of
-from ..case.history import check_history
+from ..case.history import check_history_of
 from ..counting.counts import FIT, HOLD, Count, Placing
 from ..counting.doubts import doubts
 from ..counting.reading import read_counts, read_times
@@ -148,8 +148,8 @@ def calibrate(args: argparse.Namespace) -> None:
     from ..calibrate.search import Search
     from ..calibrate.spread import spread_of
 
+    check_history_of(args.case, "a session")  # before the routes of a city are made
     start, case = start_of(args.start, args.case), Case.read(args.case)
-    check_history(case, args.case, "a session")
     placing = Placing.read(args.case, case)
     counts, notes = read_counts(args.counts, reader_of(args, start, placing), placing, args.leave_out_unknown)
     timed = [] if args.times is None else read_times(args.times, start, placing.source, reading_of(args))

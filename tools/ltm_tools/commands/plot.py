@@ -2,13 +2,16 @@
 from __future__ import annotations
 
 import argparse
+import os
 from collections.abc import Sequence
 from typing import TYPE_CHECKING, Any
 
 from ..case import Case
+from ..case.history import check_history_of
 from ..counting.counts import FIT, HOLD
 from ..counting.measures import GEH_BAD, GEH_GOOD
 from ..counting.result import flow_pairs, read_fit
+from ..errors import Fault
 from ..loading.curves import Curves
 from ..case.source import links_named, path_named
 from ..show.plot import draw_arrivals, draw_counts, draw_iterations, draw_link, draw_path
@@ -84,6 +87,9 @@ def picture(plot: Any, args: argparse.Namespace) -> Figure:
 def curve_picture(plot: Any, args: argparse.Namespace) -> Figure:
     """A picture of a curve file."""
     case = Case.read_network(args.case)
+    if args.curves is None and not os.path.exists(os.path.join(args.case, "curves.csv")):
+        check_history_of(args.case, "a curve file")
+        raise Fault(f"curves.csv is not there: ./ltm {args.case} curves >{args.case}/curves.csv writes it")
     links, streets = {link.name: link for link in case.links}, case.streets(args.case)
     curves = Curves.of_case(args.case, args.curves)
     if args.what == "link":

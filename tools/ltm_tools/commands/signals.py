@@ -11,6 +11,7 @@ from pathlib import Path
 
 from ..case import Case
 from ..case.clock import read_clock, write_clock
+from ..case.history import check_history_of
 from ..case.roads import Roads
 from ..case.source import Source
 from ..demand.signal_plans import read_signals
@@ -172,6 +173,7 @@ def optimise(args: argparse.Namespace) -> int:
         raise Fault("--optimise leaves the case as it is: -o OUT names the folder for the one with better plans")
     if args.sessions < 1 or args.rounds < 0:
         raise Fault(f"{min(args.sessions, args.rounds)} is no number of sessions or rounds")
+    check_history_of(args.case, "a session")  # before the routes of a city are made
     with output_folder(args.to):
         programs = programs_of(args.sumo) if args.sumo else {}
         found = signalled(args.case, args.program, controllers_of(programs))

@@ -8,6 +8,7 @@ import time
 from collections.abc import Iterable, Iterator, Sequence
 
 from ..case import Case
+from ..case.history import check_history_of
 from ..case.source import links_named
 from ..errors import Fault
 from ..files import write_text
@@ -107,6 +108,7 @@ def add_arguments(parser: argparse.ArgumentParser) -> None:
 def run(args: argparse.Namespace) -> int:
     if args.sessions < 1:
         raise Fault(f"{args.sessions} sessions cannot run")
+    check_history_of(args.case, "a session")  # before the routes of a city are made
     case = Case.read(args.case)
     names = {link.name for link in case.links}
     args.links = links_named(args.case, case.links, args.links)

@@ -11,7 +11,7 @@ from dataclasses import replace
 from itertools import count
 
 from ..case import Link
-from ..case.history import check_history
+from ..case.history import check_history_of
 from ..case.source import approach_heads, approaches_of
 from ..case.streets import read_streets
 from ..errors import Fault
@@ -42,9 +42,9 @@ class Scenario:
         most_lines: int = MOST_LINES,
     ) -> None:
         self.folder, self.program, self.start = os.fspath(folder), program, start
+        check_history_of(folder, "the live map")  # before the routes of a city are made
         self.open = OpenCase(folder, program, most_lines=most_lines, spare=min(ROOM, most_lines // 4))
         self.case = self.open.case
-        check_history(self.case, self.folder, "the live map")
         self.slots, self.step = self.case.setup.slots, self.case.setup.step_ms
         self.links = {link.name: place for place, link in enumerate(self.case.links)}
         self.nodes = {node: place for place, node in enumerate(self.case.nodes)}

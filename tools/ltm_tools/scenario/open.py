@@ -12,6 +12,7 @@ from types import TracebackType
 from typing import TypeVar
 
 from ..case import Case
+from ..case.history import check_history_of
 from ..errors import Fault
 from ..formats import MOST_LINES
 from ..loading.answers import Settled
@@ -67,6 +68,7 @@ class OpenCase:
     @cached_property
     def case(self) -> Case:
         """The case as its files have it."""
+        check_history_of(self.folder, "a session")  # before the routes of a city are made
         return Case.read(self.folder)
 
     @cached_property
