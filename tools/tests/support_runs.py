@@ -1,5 +1,5 @@
-"""Runs of commands over cases that are changed before, with all that they say and leave: for tests of cases that say the
-same in other files."""
+"""Runs of commands over cases that are changed before, with all that they say and leave: for tests of cases that say
+the same in other files."""
 import contextlib
 import os
 import shlex

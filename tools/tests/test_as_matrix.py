@@ -222,9 +222,9 @@ class Written(FolderTest):
 
 class Told(unittest.TestCase):
     LINE = (
-        "as the case keeps no history, its demand is a matrix: demand.csv has one record for each of 1 pair of origin and"
-        " destination, and profile.csv says when the vehicles of all of them set out, in 2 slices of slots; ltm and all"
-        " tools read this as 2 rows"
+        "as the case keeps no history, its demand is a matrix: demand.csv has one record for each of 1 pair of origin"
+        " and destination, and profile.csv says when the vehicles of all of them set out, in 2 slices of slots; ltm and"
+        " all tools read this as 2 rows"
     )
 
     def case(self, demand: list[Demand]) -> Case:

@@ -118,12 +118,12 @@ class Reading(MatrixTest):
         self.assertFalse((self.folder / "rows" / "profile.csv").exists())
 
     def test_inspected(self) -> None:
-        """A matrix is told as its rows, and that it is one; where its profile is wrong, the rest of the case still is."""
+        """A matrix is told as its rows, and that it is one; where its profile is wrong, the rest is told."""
         profile = text(PROFILE, [(0, 6, 1), (6, 12, 1)])
         told = "\n".join(inspect(str(self.made(profile, text(MATRIX, [("n1", "n3", 1), ("n2", "n3", 2)])))))
         line = (
-            "\nmatrix      demand.csv has one record for each pair of origin and destination, and profile.csv says when the"
-            " vehicles of all of them set out, in 2 slices of slots\n"
+            "\nmatrix      demand.csv has one record for each pair of origin and destination, and profile.csv says when"
+            " the vehicles of all of them set out, in 2 slices of slots\n"
         )
         self.assertIn("vehicles in 4 rows, setting out from 0:00 to 0:00:12" + line, told)
         rows = [("n1", "n3", 0, 6, "0.5"), ("n1", "n3", 6, 12, "0.5"), ("n2", "n3", 0, 6, 1), ("n2", "n3", 6, 12, 1)]

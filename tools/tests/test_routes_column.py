@@ -4,9 +4,11 @@ import random
 import subprocess
 import unittest
 from dataclasses import replace
+from pathlib import Path
 from unittest import mock
 
 from support import BUILT, FolderTest, needs_program
+from support_runs import RunsTest, runs
 from ltm_tools.case import Case
 from ltm_tools.case.bad_case import BadCase
 from ltm_tools.case import history as history_rules
@@ -14,6 +16,7 @@ from ltm_tools.case.inspect import inspect
 from ltm_tools.case.routes import missing_routes, missing_rows, split_rows
 from ltm_tools.case.rows import Demand, Limit, Link, Rows, Setup, Split
 from ltm_tools.case.sizes import ask_for_sizes
+from ltm_tools.commands import signals
 from ltm_tools.formats import MOST_ROUTED_ROWS, MOST_ROWS_ASKED
 from ltm_tools.loading.loaded import loaded
 
@@ -34,6 +37,27 @@ ALL = [
     Split("n3", "n2", 0, {"d": 1}),
     Split("n4", "n2", 0, {"e": 1}),
 ]
+
+
+def asking_for_routes(folder: Path) -> None:
+    """Has a case ask for all its routes."""
+    header, row = (folder / "setup.csv").read_text().split()
+    (folder / "setup.csv").write_text(f"{header},routes\n{row},1\n")
+    (folder / "splits.csv").write_text("node,destination,from_slot,weights\n")
+
+
+class Rewritten(RunsTest):
+    def test_in_place(self) -> None:
+        """Commands that write other files of a case leave its splits as they are; signals by turn see its routes."""
+        for run in runs("signals case --cycles", "turns"):
+            asked = mock.patch.object(signals, "read_signals", wraps=signals.read_signals)
+            with self.subTest(run.words), asked as seen:
+                status, _, err, made = self.told(run, asking_for_routes)
+                self.assertEqual((status, err), (0, ""))
+                self.assertIn("signals.csv", {Path(name).name for name in made})
+                self.assertNotIn("splits.csv", {Path(name).name for name in made})
+                for call in seen.call_args_list:
+                    self.assertEqual(len(call.args[1].splits), 5)  # to n3 from n1, n2 and n4; to n4 from n1 and n2
 
 
 class Routes(FolderTest):

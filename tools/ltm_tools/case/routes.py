@@ -3,6 +3,8 @@ that `ltm routes` would write for them."""
 from __future__ import annotations
 
 from collections.abc import Iterator
+from dataclasses import replace
+from typing import TypeVar
 
 from . import bad_case
 from .least import least
@@ -10,10 +12,22 @@ from .rows import Link, Rows, Split
 from .valid import leading_of, rows_of
 
 
+Case = TypeVar("Case", bound=Rows)
+
+
 def give_routes(case: Rows) -> None:
     """Adds to the splits of a case a row for each node and destination without one, where a route leads there."""
     assert case.splits is not None
     case.splits += list(missing_routes(case))
+
+
+def with_routes(case: Case) -> Case:
+    """The case with a row of its own for each route that it asks for, beside the case as it stands in its files."""
+    if not case.setup.routes or case.splits is None:
+        return case
+    made = replace(case, splits=[*case.splits])
+    give_routes(made)
+    return made
 
 
 def check_split_rows(case: Rows) -> None:

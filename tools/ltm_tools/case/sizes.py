@@ -103,8 +103,8 @@ def matrix_line(matrix: Matrix, rows: int) -> str:
     pairs, slices = sum(1 for _ in matrix.pairs()), len(matrix.slices)
     return (
         f"as the case keeps no history, its demand is a matrix: demand.csv has one record for each of"
-        f" {counted(pairs, 'pair')} of origin and destination, and profile.csv says when the vehicles of all of them set"
-        f" out, in {counted(slices, 'slice')} of slots; ltm and all tools read this as {counted(rows, 'row')}"
+        f" {counted(pairs, 'pair')} of origin and destination, and profile.csv says when the vehicles of all of them"
+        f" set out, in {counted(slices, 'slice')} of slots; ltm and all tools read this as {counted(rows, 'row')}"
     )
 
 

@@ -120,8 +120,8 @@ def add_counting_arguments(group: argparse._ArgumentGroup) -> None:
         type=int,
         choices=(0, 1),
         help="whether the case keeps the history of its loading, which the live map and all sessions need: 1 refuses a"
-        " case that is too large for it, 0 keeps none, and writes the demand as a matrix if it can (default: 1 if it is not"
-        " too large)",
+        " case that is too large for it, 0 keeps none, and writes the demand as a matrix if it can (default: 1 if it is"
+        " not too large)",
     )
     group.add_argument(
         "--routes",

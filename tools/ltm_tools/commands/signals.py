@@ -13,6 +13,7 @@ from ..case import Case
 from ..case.clock import read_clock, write_clock
 from ..case.history import check_history_of
 from ..case.roads import Roads
+from ..case.routes import with_routes
 from ..case.source import Source
 from ..demand.signal_plans import read_signals
 from ..errors import Fault
@@ -153,10 +154,11 @@ def run(args: argparse.Namespace) -> int:
 
 def by_cycles(args: argparse.Namespace) -> int:
     """Gives the case the signals of a table."""
-    case = Case.read(args.case)
+    case = Case.read(args.case, routes=False)  # so that no routes are written that the program makes
+    routed = with_routes(case)
     source = Source.read(args.case, Roads.of(case.links))
     begins = args.clock if args.clock is not None else read_clock(args.case) or 0
-    made = read_signals(args.cycles, case, source, start_ms=begins, even=args.even, reading=reading_of(args))
+    made = read_signals(args.cycles, routed, source, start_ms=begins, even=args.even, reading=reading_of(args))
     case.signals, case.setup.signals = made.limits, True
     with together():
         case.write(args.case)

@@ -63,7 +63,7 @@ def add_arguments(parser: argparse.ArgumentParser) -> None:
 
 def run(args: argparse.Namespace) -> int:
     """Writes the limits of turns anew, and tells what they are."""
-    case = Case.read(args.case)
+    case = Case.read(args.case, routes=False)  # so that no routes are written that the program makes
     roads = Roads.of(case.links)
     turns = read_turns(args.case, roads.links)
     found = routes_of(args, case, roads)
