@@ -140,26 +140,20 @@ class Network(BoundsTest):
 
     def test_cells(self) -> None:
         """Without asking, and of the most that may be asked for, where no loading is made."""
-        for most, columns, word, sizes in (
-            (MOST_CELLS, {}, "load", of_cells(MOST_CELLS, range(8_000, MOST_SLOTS + 1), 3)),
-            (MOST_CELLS + 1, {}, "load", of_cells(MOST_CELLS + 1, range(8_000, MOST_SLOTS + 1), 3)),
-            (MOST_CELLS_ASKED, {"cells": MOST_CELLS_ASKED}, "routes", of_cells(MOST_CELLS_ASKED, range(1, 9_000), 64)),
-            (
-                MOST_CELLS_ASKED + 1,
-                {"cells": MOST_CELLS_ASKED},
-                "routes",
-                of_cells(MOST_CELLS_ASKED + 1, range(1, 9_000), 64),
-            ),
+        for most, asked, word, slots, ends in (
+            (MOST_CELLS, {}, "load", range(2_000, 3_000), 1),
+            (MOST_CELLS_ASKED, {"cells": MOST_CELLS_ASKED}, "routes", range(1_000, 3_000), 64),
         ):
-            links, slots, ends = sizes
-            self.put("links", LINKS, roads(links))
-            self.setup_of(slots, **columns)
-            pairs = [(f"n{k}", f"n{k + 1}", 1) for k in range(ends)]
-            self.put("splits", SPLITS, steps(pairs))
-            for matrix in (False, True):
-                self.demand_of(pairs, [Slice(0, 1, 1)], matrix)
-                over = most in (MOST_CELLS + 1, MOST_CELLS_ASKED + 1)
-                self.holds(f"bad case whole row 0 CellsOver {most}" if over else None, (most, matrix), word)
+            for cells, line in ((most, None), (most + 1, f"bad case whole row 0 CellsOver {most + 1}")):
+                count, apart, of = of_cells(cells, slots, ends)
+                self.setup_of(of, **asked, links=count + apart)
+                lone = ((f"x{k}", f"x{k}", f"y{k}", 20, 36, 18, 150) for k in range(apart))
+                self.put("links", LINKS, chain(roads(count), lone))
+                pairs = [(f"n{k}", f"n{k + 1}", 1) for k in range(ends)]
+                self.put("splits", SPLITS, steps(pairs))
+                for matrix in (False, True):
+                    self.demand_of(pairs, [Slice(0, 1, 1)], matrix)
+                    self.holds(line, (cells, matrix), word)
 
     def test_slots(self) -> None:
         self.put("links", LINKS, roads(1))
@@ -180,16 +174,19 @@ class Network(BoundsTest):
 
 
 def of_cells(cells: int, slots: Iterable[int], ends: int) -> tuple[int, int, int]:
-    """How many roads in a row, slots and destinations make so many cells, by docs/FORMATS.md: the first node has an
-    origin and a link out, the last a link in, and each other an origin, a link in and a link out."""
+    """How many roads in a row, roads apart and slots make so many cells with so many destinations, by docs/FORMATS.md.
+    Of a row the first node has an origin and a link out, the last a link in, and each other an origin and both; of a
+    road apart one node is as the first, and the other as the last."""
+    first, last, middle = 4 * ends + 3, 2 * ends + 2, 6 * ends + 4
     for count in slots:
-        for to in range(1, ends + 1):
-            # widths, counts and limits of no road and of one more; the row has as many nodes as roads and one
-            each = count * (6 * to + 4) + 6 * (count + 1) * to + 2 * count
-            first = count * (4 * to + 3 + 2 * to + 2 - 6 * to - 4) + 4 * (count + 1) * to
-            if cells > first and (cells - first) % each == 0 and to < (cells - first) // each <= MOST_LINKS:
-                return (cells - first) // each, count, to
-    raise AssertionError(f"no row of roads has {cells} cells")
+        of_row = count * middle + 6 * (count + 1) * ends + 2 * count
+        of_road = count * (first + last) + 8 * (count + 1) * ends + 2 * count
+        rest = cells - count * (first + last - middle) - 4 * (count + 1) * ends
+        for apart in range(rest // of_road):
+            links, over = divmod(rest - apart * of_road, of_row)
+            if over == 0 and ends <= links <= MOST_LINKS_ASKED - apart:
+                return links, apart, count
+    raise AssertionError(f"no roads have {cells} cells")
 
 
 class Rows(BoundsTest):
@@ -220,26 +217,29 @@ class Rows(BoundsTest):
         os.truncate(path, size)
 
     def test_of_demand(self) -> None:
-        """A row of 0 vehicles is none, and one with the ends and slots of another replaces it."""
+        """A row with the ends and slots of another replaces it, and one of 0 vehicles is none."""
         for most, count, end in self.tried(MOST_DEMAND_ROWS):
             self.put("splits", SPLITS, [*((f"n{k}", end, 0, f"n{k}=1") for k in range(count)), ("x0", "x1", 0, "x0=1")])
             for matrix in (False, True):
                 self.demand_of(((f"n{k}", end, MOST_SLOTS) for k in range(count)), slots_of(MOST_SLOTS), matrix)
                 slots, row = ("", count + 2) if matrix else ("0,1,", most + 2)
-                for more, line in (
-                    (f"n0,{end},{slots}12", None),
-                    (f"x0,x1,{slots}0", None),
-                    (f"x0,x1,{slots}0.001", f"bad case demand row {row} TooManyRows"),
-                ):
-                    self.holds_with("demand", more, line, (most, matrix))
+                self.holds_with("demand", f"n0,{end},{slots}12\nx0,x1,{slots}0", None, (most, matrix))
+                over = f"bad case demand row {row} TooManyRows"
+                self.holds_with("demand", f"x0,x1,{slots}0.001", over, (most, matrix))
 
     def test_of_splits(self) -> None:
         for most, count, end in self.tried(MOST_SPLIT_ROWS):
-            self.put("splits", SPLITS, ((f"n{k}", end, slot, f"n{k}=1") for k in range(count) for slot in range(MOST_SLOTS)))
-            for matrix in (False, True):
+            rows = ((f"n{k}", end, slot, f"n{k}=1") for k in range(count) for slot in range(MOST_SLOTS))
+            self.put("splits", SPLITS, rows)
+            over = f"bad case splits row {most + 2} TooManyRows"
+            for matrix, more, line in (
+                (False, f"n0,{end},0,n0=2", None),
+                (True, "x0,x1,0,x0=1", over),
+                (True, f"n0,{end},0,n0=2", None),
+                (False, "x0,x1,0,x0=1", over),
+            )[: 4 if most == MOST_SPLIT_ROWS else 2]:
                 self.demand_of([("n0", end, 1000)], [Slice(0, 2, 1)], matrix)
-                self.holds_with("splits", f"n0,{end},0,n0=2", None, (most, matrix))
-                self.holds_with("splits", "x0,x1,0,x0=1", f"bad case splits row {most + 2} TooManyRows", (most, matrix))
+                self.holds_with("splits", more, line, (most, matrix))
 
     def test_of_routes(self) -> None:
         """Of a ring, to 200 of its nodes from each of the 2,500 others; the road apart has one more, and a record of
@@ -337,17 +337,16 @@ class Files(BoundsTest):
         self.holds(f"too long {file}", (file, most + 1, what), status=7)
 
     def test_each(self) -> None:
-        for file in HEADERS:
-            for matrix in (True, False):
-                if matrix or file not in ("setup", "links", "profile"):
-                    self.small(matrix, signals=1, limits=1)
-                    self.holds_at(file, MOST_FILE_BYTES, matrix)
+        for file, matrix in (*((file, True) for file in HEADERS), ("demand", False)):
+            self.small(matrix, signals=1, limits=1)
+            self.holds_at(file, MOST_FILE_BYTES, matrix)
 
     def test_of_many_rows(self) -> None:
         """Demand and splits may be longer beside a setup that asks for more rows than a case with a history may."""
         for file, matrix in (("demand", False), ("demand", True), ("splits", True)):
             self.small(matrix, rows=MOST_ROWS_ASKED, history=0)
-            self.holds_at(file, MOST_FILE_BYTES, matrix)
+            os.truncate(self.folder / f"{file}.csv", MOST_FILE_BYTES + 1)
+            self.holds(f"too long {file}", (file, matrix), status=7)
             self.small(matrix, rows=MOST_ROWS_ASKED + 1, history=0)
             if ROWS == MOST_ROWS_NO_HISTORY:
                 self.holds_at(file, MOST_LARGE_FILE_BYTES, matrix)
