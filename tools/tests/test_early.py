@@ -17,9 +17,10 @@ from ltm_tools.case.leading import Leading
 from ltm_tools.case.valid import route_rows
 from ltm_tools.errors import Fault
 from ltm_tools.network import early, options as bounds
-from ltm_tools.network.early import Sure, check_cells, check_routes
+from ltm_tools.network.early import Sure, check_cells, check_ends, check_links, check_routes
 from ltm_tools.network.fit import FittedNetwork
 from ltm_tools.network.importing import NotCarried, carried
+from ltm_tools.network.network import Network
 from ltm_tools.network.options import Options
 
 LATE = "work that takes long has begun"
@@ -139,9 +140,35 @@ class Gmns(GmnsTest):
         with mock.patch.object(early, "MOST_CELLS_ASKED", 1000), least():
             self.assertIn("cells or more", self.refused("--history", "1", "--step", "5s"))
 
+    def test_rows_of_demand(self) -> None:
+        """Two pairs over a profile of two parts, of which one of a vehicle gets nothing in the second: 3 rows."""
+        self.net(PLAIN, "node_id,zone_id\n1,1\n2,2\n3,3\n", "o_zone_id,d_zone_id,volume\n1,3,1\n2,3,20\n")
+        (self.folder / "profile.csv").write_text("from,to,share\n0:00,0:30,1999\n0:30,1:00,1\n")
+        words = ("--turns", "none", "--step", "5s", "--profile", str(self.folder / "profile.csv"))
+        with mock.patch("ltm_tools.gmns.importing.carried", side_effect=AssertionError(LATE)), mock.patch.multiple(
+            bounds, MOST_ROWS_NO_HISTORY=2
+        ):
+            said = self.refused(*words)
+        self.assertIn(
+            "3 rows of demand, of 2 pairs of origin and destination in 2 slices, and at most 2 may be", said
+        )
+        with mock.patch.multiple(bounds, MOST_ROWS_NO_HISTORY=3):
+            self.assertEqual(len(self.made(*words).demand), 3)
+
 
 class Sumo(SumoTest):
     ROUTES = '<vehicle id="v" depart="5"><route edges="in on"/></vehicle>'
+
+    def test_links_before_anything_is_made_of_the_net(self) -> None:
+        """They are counted as soon as the net is read: no times, routes or signals are looked at."""
+        late = {"side_effect": AssertionError(LATE)}
+        with least(MOST_LINKS_NO_HISTORY=4), contextlib.ExitStack() as opened:
+            for name in ("set_times", "find_routes", "background_of"):
+                opened.enter_context(mock.patch(f"ltm_tools.sumo.inputs.{name}", **late))
+            self.assertIn("5 links, and at most 4 may be: cut out", self.refused(routes=self.ROUTES))
+        with least(MOST_LINKS_ASKED=4):
+            said = self.refused("--history", "1", routes=self.ROUTES)
+        self.assertIn("5 links, and at most 4 may be with --history 1: give --history 0", said)
 
     def test_links_and_cells(self) -> None:
         with least(MOST_LINKS_NO_HISTORY=4):
@@ -155,24 +182,32 @@ class Sumo(SumoTest):
         self.assertIn("28,800 cells or more, and at most 1,000 may be with --history 1", said)
 
 
+def heads(network: Network, node: str) -> list[str]:
+    """The nodes to which the roads out of a node lead."""
+    return [network.roads[name].head for name in network.outs[node]]
+
+
 class NeverTooMuch(unittest.TestCase):
     def test_what_is_counted_is_never_more_than_the_case_has(self) -> None:
-        """Of made networks, fitted to steps with which most of their roads are too short, few, or none."""
+        """Of made networks, fitted to steps with which most of their roads are too short, few, or none: where exactly
+        as many links, rows of routes and cells may be as there are, nothing is refused."""
         closer = 0
         for seed in range(150):
             raw, step = made_network(seed), random.Random(seed).choice((500, 2000, 5000, 10_000))
             for fit in (step, None):
                 options = Options(fit=fit, step=None if fit else 100, least_step=1, rename=True)
-                sure, ends = Sure.of(raw, options), sorted(raw.ends)
-                reach, made = early.Reach(raw), FittedNetwork(raw, fit).run() if fit else raw
-                self.assertLessEqual(sure.links, max(1, len(made.roads)), seed)
-                heads = {node: [made.roads[name].head for name in names] for node, names in made.outs.items()}
-                after = Leading(heads)
-                counted = (reach.by_part(dict.fromkeys(raw.nodes, 1)), after.by_part(dict.fromkeys(made.nodes, 1)))
-                for end in ends:
-                    rows = reach.sum_of(end, counted[0]) - 1 - sure.joined
-                    self.assertLessEqual(rows, after.sum_of(end, counted[1]) - 1, seed)
-                closer += sure.joined > 0 and sure.links > 1
+                made = FittedNetwork(raw, fit).run() if fit else raw
+                after, ends = Leading({node: heads(made, node) for node in made.nodes}), sorted(raw.ends)
+                each = after.by_part(dict.fromkeys(made.nodes, 1))
+                rows = sum(after.sum_of(end, each) - 1 for end in ends)
+                links = max(1, len(made.roads))
+                with mock.patch.multiple(bounds, MOST_LINKS_NO_HISTORY=links, MOST_ROUTED_ROWS=rows):
+                    with self.subTest(seed, fit=fit):
+                        check_links(raw, options, "made")
+                        check_routes(raw, ends, options)
+                with mock.patch.object(early, "MOST_CELLS_ASKED", 8 * links * len(ends) * 60), self.subTest(seed):
+                    check_cells(raw, ends, replace(options, history=True), 60 * (fit or 100))
+                closer += Sure.of(raw, options).joined > 0 and Sure.of(raw, options).links > 1
         self.assertGreater(closer, 20)
 
     def test_links_that_a_fit_makes(self) -> None:
@@ -192,6 +227,36 @@ class NeverTooMuch(unittest.TestCase):
                 ],
             )
             self.assertEqual(len(carried(raw, Options(fit=10_000)).links), 12)
+
+    def test_what_a_fit_joins_is_counted_by_hand(self) -> None:
+        """A ring of six roads with one of 5 m, too short for 5 s: of its six links four are counted, and of the five
+        nodes from which ways lead to each end four."""
+        lengths = (500, 500, 5, 500, 500, 500)
+        roads = [road(f"k{k}", f"n{k}", f"n{(k + 1) % 6}", metres) for k, metres in enumerate(lengths)]
+        raw, options = network(*roads, ends="n0 n1"), Options(fit=5000)
+        self.assertEqual(Sure.of(raw, options), Sure(4, 1))
+        with mock.patch.multiple(bounds, MOST_ROUTED_ROWS=8, MOST_LINKS_NO_HISTORY=4):
+            check_links(raw, options, "ring")
+            check_routes(raw, sorted(raw.ends), options)
+        with mock.patch.multiple(bounds, MOST_ROUTED_ROWS=7):
+            with self.assertRaisesRegex(Fault, "^8 rows of routes or more"):
+                check_routes(raw, sorted(raw.ends), options)
+        with mock.patch.multiple(bounds, MOST_LINKS_NO_HISTORY=3):
+            with self.assertRaisesRegex(Fault, "^ring: 4 links or more, and at most 3 may be"):
+                check_links(raw, options, "ring")
+        for most in (8 * 4 * 2 * 60, 8 * 4 * 2 * 60 - 1):
+            with mock.patch.object(early, "MOST_CELLS_ASKED", most):
+                with self.assertRaises(Fault) if most % 2 else contextlib.nullcontext():
+                    check_cells(raw, sorted(raw.ends), replace(options, history=True), 60 * 5000)
+
+    def test_pairs_are_rows_of_demand(self) -> None:
+        """Each pair of origin and destination has one at least."""
+        pairs = [("a", "c"), ("b", "c"), ("d", "c")]
+        with mock.patch.multiple(bounds, MOST_ROWS_NO_HISTORY=3):
+            check_ends(pairs, Options())
+        with mock.patch.multiple(bounds, MOST_ROWS_NO_HISTORY=2):
+            with self.assertRaisesRegex(Fault, "3 pairs of origin and destination, and at most 2 rows of demand may"):
+                check_ends(pairs, Options())
 
     def test_cells_of_a_network_that_is_not_fitted(self) -> None:
         for seed in range(40):
