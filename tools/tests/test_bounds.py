@@ -296,13 +296,13 @@ class Profiles(BoundsTest):
             self.demand_of(pairs, slices, True)
             self.holds(line, share)
             if line is None and RUNS_PROGRAM:
-                loaded = self.program("totals", "1")
+                waits = self.delay()
                 self.demand_of(pairs, slices, False)
-                self.assertTrue(loaded == self.program("totals", "1"), f"rows give another loading, with share {share}")
+                self.assertEqual(waits, self.delay(), f"rows give another loading, with share {share}")
 
-    def program(self, *words: str) -> str:
-        """What the program writes of the case."""
-        run = subprocess.run([BUILT, *words], cwd=self.folder, capture_output=True, text=True)
+    def delay(self) -> str:
+        """How long vehicles wait, which tells each thousandth that sets out in another slot."""
+        run = subprocess.run([BUILT, "delay"], cwd=self.folder, capture_output=True, text=True)
         self.assertEqual(run.returncode, 0)
         return run.stdout
 

@@ -1,12 +1,15 @@
 """The inside of a network as a case: worked by hand, with vehicles that come in at the edge, from an origin inside, and
 through a node that both come to; and with a queue over the edge."""
 import csv
+import re
+import shutil
+import subprocess
 import unittest
 from pathlib import Path
 from unittest import mock
 
 import commands
-from support import BUILT, FolderTest, needs_program
+from support import BUILT, EXAMPLES, FolderTest, needs, needs_program
 from ltm_tools.case import Link, history
 from ltm_tools.case.roads import Roads
 from ltm_tools.cutting.exits import parts_of
@@ -194,6 +197,72 @@ class ACut(FolderTest):
         self.assertEqual(found["source_links.csv"], "source,from,to,link\nA,O,N,\nA,O,N,l1\nB,N,P,l2\n")
         self.assertEqual(found["source_nodes.csv"], "source,node\nN,n\n")
         self.assertEqual(found["clock.txt"], "7:00\n")
+
+
+Passed = dict[str, list[int]]
+"""By link what has entered it, and behind that what has left it, by each boundary, in thousandths of a vehicle."""
+
+
+def passed(case: Path) -> Passed:
+    """What `ltm totals 1` says of the links of a case."""
+    run = subprocess.run([BUILT, "totals", "1"], cwd=case, check=True, capture_output=True, text=True)
+    rows = [line.split() for line in run.stdout.splitlines() if line.startswith("link ")]
+    return {row[1]: [int(word) for word in row[3:] if word != "left"] for row in rows}
+
+
+@needs_program
+class FlowsOfTheWhole(FolderTest):
+    """The flows inside the cut are those of the whole but for the rounding that is told, by the totals of both, which
+    the cut itself does not ask for; where the whole keeps a history and where it keeps none."""
+
+    def differs(self, case: Path, *words: str) -> tuple[int, str]:
+        """By how many thousandths of a vehicle a cut differs from the whole at most, and what the command tells."""
+        made = self.folder / "made"
+        shutil.rmtree(made, ignore_errors=True)
+        status, out, err = commands.run("cut", str(case), *words, "-o", str(made), "--program", str(BUILT))
+        self.assertEqual((status, err), (0, ""))
+        whole, own = passed(case), passed(made)
+        self.assertTrue(own.keys() < whole.keys())
+        self.assertGreater(max(counts[-1] for counts in own.values()), 10_000)
+        most = max(abs(one - other) for name in own for one, other in zip(whole[name], own[name], strict=True))
+        told = re.search(r"differ most at [^,]+, by ([0-9.]+) vehicles? at boundary [0-9]+\n\Z", out)
+        assert told is not None, out
+        self.assertEqual(round(float(told[1]) * 1000), most)
+        return most, out
+
+    def without_history(self, case: Path) -> None:
+        """Lets a case keep no history."""
+        header, row = (case / "setup.csv").read_text().split()
+        (case / "setup.csv").write_text(f"{header},history\n{row},0\n")
+
+    def test_of_the_corridor(self) -> None:
+        """One road behind the other, where nothing is rounded."""
+        case = self.folder / "case"
+        shutil.copytree(EXAMPLES / "corridor", case)
+        (self.folder / "wanted.csv").write_text("link\nr7\nr8\nworks\nr9\n")
+        words = ("--links", str(self.folder / "wanted.csv"))
+        kept = self.differs(case, *words)
+        self.assertEqual(kept[0], 0)
+        self.without_history(case)
+        self.assertEqual(self.differs(case, *words), kept)
+
+    @needs("sumo")
+    def test_of_the_town(self) -> None:
+        """With a tenth of its vehicles, nine crossings: what comes in and leaves by many ways differs by less than half
+        a vehicle of 178."""
+        town, case = self.folder / "town", self.folder / "case"
+        make = EXAMPLES / "from_sumo" / "make.py"
+        subprocess.run([make, "town", town, "--share", "0.1"], check=True, capture_output=True)
+        files = [str(town / f"town.{kind}.xml") for kind in ("net", "rou", "add")]
+        words = ("--fit", "5s", "--horizon", "60", "--turns", "none", "--entries", "none", "--carry", "0")
+        self.assertEqual(commands.run("from-sumo", *files, str(case), *words)[0], 0)
+        box = ("--box", "480", "480", "900", "900")
+        kept = self.differs(case, *box)
+        self.assertLess(kept[0], 500)
+        self.assertIn("24 of 224 links", kept[1])
+        self.assertIn("no queue reaches the edge\n", kept[1])
+        self.without_history(case)
+        self.assertEqual(self.differs(case, *box), kept)
 
 
 class Parts(unittest.TestCase):
