@@ -12,6 +12,7 @@ import commands
 from support import BUILT, EXAMPLES, FolderTest, needs, needs_program
 from ltm_tools.case import Link, history
 from ltm_tools.case.roads import Roads
+from ltm_tools.cutting.cut import demand_rows
 from ltm_tools.cutting.exits import parts_of
 from ltm_tools.cutting.inside import Inside
 
@@ -266,6 +267,12 @@ class FlowsOfTheWhole(FolderTest):
 
 
 class Parts(unittest.TestCase):
+    def test_what_rounding_leaves_over(self) -> None:
+        """Of a third of a thousandth in each slot nothing is lost: every third slot has one."""
+        rows = demand_rows("m", "n", [1 / 3] * 6 + [0.0] * 3 + [2 / 3] * 3)
+        self.assertEqual(sum(row.units for row in rows), 4)
+        self.assertEqual([(row.from_slot, row.to_slot) for row in rows[:2]], [(1, 2), (4, 5)])
+
     def test_a_loop(self) -> None:
         """Half of those at n leave for good by y, and half go round by l2 and back, to n again: all leave there. At m
         a quarter leaves by w."""
