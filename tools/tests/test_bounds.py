@@ -1,8 +1,9 @@
-"""Cases at each bound of docs/FORMATS.md and one beyond it, with their demand as rows and as a matrix: the second reader
-and the program take the one, and refuse the other by the same line.
+"""Cases at each bound of docs/FORMATS.md and one beyond it, with their demand as rows and as a matrix: the second
+reader and the program take the one, and refuse the other by the same line.
 
-All files are made here, record by record. Bounds of more rows than LTM_ROWS says are left out, since they take minutes
-and some gigabytes: with LTM_ROWS=8000000 all are tried.
+All files are made here, record by record, and the bounds are written down here once more, not taken from the tools.
+Bounds of more rows than LTM_ROWS says are left out, since they take minutes and some gigabytes: with LTM_ROWS=8000000
+all are tried.
 """
 import os
 import subprocess
@@ -13,35 +14,16 @@ from itertools import chain
 from support import BUILT, FolderTest
 from support_refused import due, told
 from ltm_tools.case.matrix import Slice, parts
-from ltm_tools.formats import (
-    DEMAND,
-    HEADERS,
-    LINKS,
-    MATRIX,
-    MOST_CELLS,
-    MOST_CELLS_ASKED,
-    MOST_DEMAND_ROWS,
-    MOST_DESTINATIONS,
-    MOST_DESTINATIONS_ASKED,
-    MOST_DESTINATIONS_NO_HISTORY,
-    MOST_FILE_BYTES,
-    MOST_LARGE_FILE_BYTES,
-    MOST_LINKS,
-    MOST_LINKS_ASKED,
-    MOST_LINKS_NO_HISTORY,
-    MOST_ROUTED_ROWS,
-    MOST_ROWS_ASKED,
-    MOST_ROWS_NO_HISTORY,
-    MOST_SHARE,
-    MOST_SLOTS,
-    MOST_SPLIT_ROWS,
-    MOST_UNITS,
-    PROFILE,
-    SETUP,
-    SIGNALS,
-    SPLITS,
-    short_vehicles,
-)
+from ltm_tools.formats import DEMAND, HEADERS, LINKS, MATRIX, PROFILE, SETUP, SIGNALS, SPLITS, short_vehicles
+
+# as docs/FORMATS.md has them: without a column, asked for, and without history
+MOST_LINKS, MOST_LINKS_ASKED, MOST_LINKS_NO_HISTORY = 4_000, 16_000, 40_000
+MOST_DESTINATIONS, MOST_DESTINATIONS_ASKED, MOST_DESTINATIONS_NO_HISTORY = 64, 256, 2_000
+MOST_DEMAND_ROWS, MOST_SPLIT_ROWS, MOST_ROWS_ASKED, MOST_ROWS_NO_HISTORY = 10_000, 50_000, 500_000, 8_000_000
+MOST_ROUTED_ROWS = 160_000_000
+MOST_CELLS, MOST_CELLS_ASKED = 54_000_000, 4_294_967_295
+MOST_FILE_BYTES, MOST_LARGE_FILE_BYTES = 16_777_216, 268_435_456
+MOST_SLOTS, MOST_SHARE, MOST_UNITS = 10_000, 1_000_000, 1_000_000_000
 
 ROWS = int(os.environ.get("LTM_ROWS", MOST_ROWS_ASKED))  # the most rows of a bound that is tried
 RUNS_PROGRAM = os.access(BUILT, os.X_OK)
@@ -407,7 +389,6 @@ class Columns(BoundsTest):
                 self.demand_of([("n0", "n2", 1000)], [Slice(0, 4, 1)], matrix)
                 for word in ("load", "routes"):
                     self.holds(line and f"bad case setup {line}", (names, values, matrix), word)
-
 
 
 if __name__ == "__main__":

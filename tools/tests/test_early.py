@@ -149,9 +149,7 @@ class Gmns(GmnsTest):
             bounds, MOST_ROWS_NO_HISTORY=2
         ):
             said = self.refused(*words)
-        self.assertIn(
-            "3 rows of demand, of 2 pairs of origin and destination in 2 slices, and at most 2 may be", said
-        )
+        self.assertIn("3 rows of demand, of 2 pairs of origin and destination in 2 slices, and at most 2 may be", said)
         with mock.patch.multiple(bounds, MOST_ROWS_NO_HISTORY=3):
             self.assertEqual(len(self.made(*words).demand), 3)
 
