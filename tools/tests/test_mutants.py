@@ -17,7 +17,8 @@ from ltm_tools.formats import MATRIX, MOST_SHARE, PROFILE, SETUP, SETUP_MORE, SP
 MUTANTS = int(os.environ.get("LTM_MUTANTS", "600"))  # how many changed cases the program is asked about
 BASE = Path(__file__).resolve().parent / "data" / "delay" / "base"
 SLOTS = 12
-PAIRS = (("n1", "n3"), ("n1", "n4"), ("n2", "n3"), ("n2", "n4"))
+PAIRS = (("n1", "n3"), ("n1", "n4"), ("n2", "n3"), ("n2", "n4"), ("n2", "n5"), ("n4", "n5"))  # the last has no route
+LINKS = (BASE / "links.csv").read_bytes() + b"e,n2,n5,20,36,18,150\n"
 FILES = ("setup", "demand", "profile")  # that are changed
 
 
@@ -36,16 +37,17 @@ def setup_at_random(pick: random.Random) -> bytes:
         "links": (3, 4, 16_000, 40_000),
         "destinations": (1, 2, 256, 2_000),
     }
-    often = ("rows", "history", "routes")
+    often = ("rows", "destinations", "history", "routes")
     columns = [column for column in SETUP_MORE if pick.random() < (0.7 if column in often else 0.2)]
     return text((*SETUP, *columns), [(1000, SLOTS, 1, *(pick.choice(values.get(name, (0, 1))) for name in columns))])
 
 
 def profile_at_random(pick: random.Random) -> bytes:
-    """Slices in order and apart, most of them side by side."""
-    ends = sorted(pick.sample(range(SLOTS + 1), pick.randrange(2, SLOTS + 1)))
-    spans = [span for span in zip(ends, ends[1:]) if pick.random() < 0.9] or [(ends[0], ends[1])]
-    return text(PROFILE, [(*span, pick.choice((1, 1, 2, 3, 7, 1000, MOST_SHARE))) for span in spans])
+    """Slices in order and apart, most of them side by side; a few go past the horizon or have a share that none may."""
+    ends = sorted(pick.sample(range(SLOTS + 1 + (pick.random() < 0.05)), pick.randrange(2, SLOTS + 1)))
+    spans = [span for span in zip(ends, ends[1:]) if pick.random() < 0.9]
+    shares = (1, 1, 2, 3, 7, 1000, MOST_SHARE) if pick.random() < 0.9 else (1, 1, 1, 0, MOST_SHARE + 1)
+    return text(PROFILE, [(*span, pick.choice(shares)) for span in spans])
 
 
 def matrix_at_random(pick: random.Random) -> bytes:
@@ -56,8 +58,9 @@ def matrix_at_random(pick: random.Random) -> bytes:
 
 
 def splits_at_random(pick: random.Random) -> bytes:
-    """Splits of the base, or a header alone, which is enough where routes are asked for."""
-    return (BASE / "splits.csv").read_bytes() if pick.random() < 0.6 else text(SPLITS, [])
+    """Splits of the base, or a header alone, which is enough where routes are asked for, or a row that leads astray."""
+    rows = [[], [], [("n1", "n3", 0, "a=1"), ("n2", "n3", 0, "e=1 b=1")], [("n2", "n5", 0, "b=1 e=1")]]
+    return (BASE / "splits.csv").read_bytes() if pick.random() < 0.5 else text(SPLITS, pick.choice(rows))
 
 
 @needs_program
@@ -65,7 +68,7 @@ class Mutants(FolderTest):
     def test_changed_at_random(self) -> None:
         """Of each case one file is changed, the setup, the matrix or the profile, and of one in ten two are."""
         pick, seen, differing = random.Random(93), set(), 0
-        (self.folder / "links.csv").write_bytes((BASE / "links.csv").read_bytes())
+        (self.folder / "links.csv").write_bytes(LINKS)
         for number in range(MUTANTS):
             made = {
                 "setup": setup_at_random(pick),
