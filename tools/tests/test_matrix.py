@@ -1,5 +1,5 @@
 """A demand that stands as a matrix over the slices of a profile: what the second reader makes of it, the faults of both
-files, and that the program agrees, on matrices and profiles that are made and changed at random.
+files, and that the program agrees, on matrices and profiles that are made at random too (`test_mutants` changes them).
 
 The parts and the faults that are written out here were worked out by hand after docs/FORMATS.md.
 """
@@ -9,7 +9,6 @@ import unittest
 from collections.abc import Sequence
 from pathlib import Path
 
-from mutate import mutated
 from support import BUILT, FolderTest, needs_program
 from ltm_tools.case import Case
 from ltm_tools.case.bad_case import BadCase, NoFile, TooLong
@@ -241,20 +240,6 @@ class Program(MatrixTest):
             with self.subTest(profile=profile, demand=demand):
                 self.assertEqual(loaded, (self.program(), self.program("gap")))
                 self.assertEqual(loaded[0][0], 0)
-
-    def test_changed_at_random(self) -> None:
-        """The second reader and the program agree on 600 matrices and profiles that are changed at random."""
-        pick, seen = random.Random(93), set()
-        for number in range(600):
-            files = [text(PROFILE, slices_at_random(pick)).encode(), text(MATRIX, pairs_at_random(pick)).encode()]
-            place = pick.randrange(2)
-            files[place] = mutated("", files[place], pick)
-            self.made(*files)
-            status, line = self.program()
-            with self.subTest(number, profile=files[0], demand=files[1]):
-                self.assertEqual((status, line if status else ""), self.told())
-            seen.add((status, " ".join(line.split()[2:3] + line.split()[5:]) if status else ""))
-        self.assertGreater(len(seen), 12, seen)
 
 
 if __name__ == "__main__":
