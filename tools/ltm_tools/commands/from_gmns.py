@@ -17,21 +17,20 @@ whole km/h, with which the top of the triangle is nearest to the capacity.
 from __future__ import annotations
 
 import argparse
-from fractions import Fraction
 from functools import partial
 
-from ..formats import clock_ms
 from ..gmns.fields import KMH
 from ..gmns.importing import GmnsOptions, import_gmns, steps_of_gmns
 from ..network.lengths import METRES, UNITS
 from .arguments import add_table_arguments, reading_of
 from .imports import (
-    above_0,
     add_crossing_arguments,
+    add_jam_argument,
     add_network_arguments,
     add_od_arguments,
     add_yielding_argument,
     network_options,
+    od_options,
     run_import,
 )
 
@@ -52,9 +51,7 @@ def add_arguments(parser: argparse.ArgumentParser) -> None:
     add_network_arguments(parser)
     add_yielding_argument(add_crossing_arguments(parser))
     reading = parser.add_argument_group("what the network's fields mean")
-    reading.add_argument(
-        "--jam", type=above_0, default=Fraction(150), help="jam density of a lane in vehicles/km (default: 150)"
-    )
+    add_jam_argument(reading)
     reading.add_argument(
         "--length-unit",
         choices=METRES,
@@ -111,9 +108,9 @@ def run(args: argparse.Namespace) -> int:
 
 def options_of(args: argparse.Namespace) -> GmnsOptions:
     """What the words of the command ask for."""
-    start = clock_ms(args.start) if args.start is not None else None
     return GmnsOptions(
         **network_options(args),
+        **od_options(args),
         jam=args.jam,
         length_unit=args.length_unit,
         speed_unit=args.speed_unit,
@@ -122,10 +119,5 @@ def options_of(args: argparse.Namespace) -> GmnsOptions:
         capacity=args.capacity,
         reading=reading_of(args),
         demand=args.demand,
-        period=args.period,
-        profile=args.profile,
-        start_ms=start,
-        horizon=args.horizon,
         zone_nodes=args.zone_nodes,
-        leave_out_unreached=args.leave_out_unreached,
     )

@@ -13,6 +13,7 @@ from .arguments import whole
 from .imports import (
     above_0,
     add_crossing_arguments,
+    add_destinations_argument,
     add_network_arguments,
     add_route_arguments,
     network_options,
@@ -74,12 +75,7 @@ def add_time_arguments(group: argparse._ArgumentGroup) -> None:
         metavar="MINUTES",
         help="the minutes of a row of splits (default: 15, or more if there would be too many rows)",
     )
-    group.add_argument(
-        "--destinations",
-        type=whole,
-        metavar="N",
-        help="keep the N destinations with most vehicles; other trips end at the nearest of these",
-    )
+    add_destinations_argument(group)
 
 
 def add_net_arguments(group: argparse._ArgumentGroup) -> None:

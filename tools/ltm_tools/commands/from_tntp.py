@@ -16,11 +16,18 @@ import argparse
 from fractions import Fraction
 from functools import partial
 
-from ..formats import clock_ms
 from ..network.lengths import METRES
 from ..tntp.importing import TntpOptions, import_tntp, steps_of_tntp
 from ..tntp.units import SECONDS
-from .imports import above_0, add_network_arguments, add_od_arguments, network_options, run_import
+from .imports import (
+    above_0,
+    add_jam_argument,
+    add_network_arguments,
+    add_od_arguments,
+    network_options,
+    od_options,
+    run_import,
+)
 
 NAME = "from-tntp"
 SUMMARY = "import a network and trips from the Transportation Networks collection (TNTP)"
@@ -60,9 +67,7 @@ def add_arguments(parser: argparse.ArgumentParser) -> None:
         metavar="N",
         help="the vehicles an hour of one lane, from which the number of lanes is worked out (default: 1800)",
     )
-    reading.add_argument(
-        "--jam", type=above_0, default=Fraction(150), help="jam density of a lane in vehicles/km (default: 150)"
-    )
+    add_jam_argument(reading)
     reading.add_argument(
         "--wave",
         type=above_0,
@@ -86,6 +91,7 @@ def options_of(args: argparse.Namespace) -> TntpOptions:
     """What the words of the command ask for."""
     return TntpOptions(
         **network_options(args),
+        **od_options(args),
         length_unit=args.length_unit,
         time_unit=args.time_unit,
         capacity_hours=args.capacity_hours,
@@ -93,9 +99,4 @@ def options_of(args: argparse.Namespace) -> TntpOptions:
         jam=args.jam,
         wave=args.wave,
         scale=args.scale,
-        period=args.period,
-        profile=args.profile,
-        start_ms=clock_ms(args.start) if args.start is not None else None,
-        horizon=args.horizon,
-        leave_out_unreached=args.leave_out_unreached,
     )

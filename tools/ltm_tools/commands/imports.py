@@ -10,7 +10,7 @@ from fractions import Fraction
 from typing import Any, TypeVar
 
 from ..errors import Fault
-from ..formats import above_0_or_none, MOST_SLOT_UNITS, MOST_STEP_MS, UNITS
+from ..formats import MOST_SLOT_UNITS, MOST_STEP_MS, UNITS, above_0_or_none, clock_ms
 from ..network.imported import Imported
 from ..network.importing import NotCarried
 from ..network.bad_option import BadOption
@@ -165,14 +165,37 @@ def add_od_arguments(demand: argparse._ArgumentGroup) -> None:
         metavar="MINUTES",
         help="the length of the horizon in minutes (default: 120)",
     )
+    add_destinations_argument(demand)
     demand.add_argument(
+        "--leave-out-unreached", action="store_true", help="leave out demand that has no route, and report how much"
+    )
+
+
+def od_options(args: argparse.Namespace) -> dict[str, Any]:
+    """What these arguments ask for, by the names of options."""
+    return {
+        "period": args.period,
+        "profile": args.profile,
+        "start_ms": clock_ms(args.start) if args.start is not None else None,
+        "horizon": args.horizon,
+        "leave_out_unreached": args.leave_out_unreached,
+    }
+
+
+def add_destinations_argument(group: argparse._ArgumentGroup) -> None:
+    """The argument on how many destinations are kept."""
+    group.add_argument(
         "--destinations",
         type=whole,
         metavar="N",
         help="keep the N destinations with most vehicles; other trips end at the nearest of these",
     )
-    demand.add_argument(
-        "--leave-out-unreached", action="store_true", help="leave out demand that has no route, and report how much"
+
+
+def add_jam_argument(group: argparse._ArgumentGroup) -> None:
+    """The argument on how near vehicles stand."""
+    group.add_argument(
+        "--jam", type=above_0, default=Fraction(150), help="jam density of a lane in vehicles/km (default: 150)"
     )
 
 

@@ -19,14 +19,14 @@ from ..demand.volumes import Volumes
 from ..files import existing
 from ..network.entries import without
 from ..network.imported import Imported
-from ..network.early import check_ends, check_links
+from ..network.early import check_links
 from ..network.importing import NotCarried, carried
 from ..network.least_routes import least_routes
 from ..network.network import Network
 from ..network.bad_option import BadOption
-from ..network.od_case import OdOptions, case_of, check_rows, check_times, inner_told, departure_parts, size_told
+from ..network.od_case import OdOptions, case_of, check_times, inner_told, departure_parts, size_told
 from ..network.od_entries import enter_zones
-from ..network.od_nodes import by_node, check_pairs, fewer_ends, pairs_of
+from ..network.od_nodes import check_pairs, check_volumes, kept_by_node
 from ..network.placing import Map, places_of
 from ..network.steps import steps_table
 from ..network.street_names import street_names
@@ -82,8 +82,7 @@ def import_gmns(folder: str | os.PathLike[str], options: GmnsOptions = GmnsOptio
     """The case of the network in a folder; NotCarried with all that a case cannot have."""
     asked = read_all(Path(folder), options, options.crossings.turns != "none")
     read, raw = asked.read, asked.raw
-    check_ends(asked.volumes, options)
-    check_rows(asked.volumes, options)
+    check_volumes(asked.volumes, options)
     try:
         made = carried(raw, options, lambda: least_routes(raw, asked.volumes.units("demand")))
     except NotCarried as fault:
@@ -157,15 +156,11 @@ def read_all(folder: Path, options: GmnsOptions, turning: bool = False) -> Asked
     check_links(read.network, options, folder)
     place_zones(read, options.zone_nodes)
     amounts = amounts_of(folder, options)
-    if options.destinations is None and not options.leave_out_unreached:
-        check_pairs(read.network, pairs_of(read.network, amounts), options, not turning)
+    check_pairs(read.network, amounts, options, not turning)
     ends = trip_ends(read.network, amounts)
     turned, yields = turn(folder, read, *ends, amounts, options) if turning else (None, [])
     entries = enter_zones(read.network, amounts, options, read.notes) if options.entries else frozenset()
-    volumes = by_node(read.network, amounts, options.leave_out_unreached, read.notes)
-    if options.destinations is not None and volumes:
-        volumes = fewer_ends(read.network, volumes, options.destinations, read.notes)
-    read.network.ends = set(volumes.names)
+    volumes = kept_by_node(read.network, amounts, options, read.notes)
     return Asked(read, amounts, volumes, turned, entries, yields)
 
 

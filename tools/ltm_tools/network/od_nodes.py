@@ -10,7 +10,7 @@ from .ends import nearest_kept, most_used
 from .early import check_cells, check_ends, check_routes, destinations_that_fit
 from .importing import NotCarried
 from .network import Network
-from .od_case import OdOptions
+from .od_case import OdOptions, check_rows
 from .reach import Reach
 
 
@@ -25,14 +25,31 @@ def pairs_of(raw: Network, amounts: Amounts) -> Volumes:
     return pairs
 
 
-def check_pairs(raw: Network, pairs: Volumes, options: OdOptions, all_turns: bool = True) -> None:
-    """TooLarge where demand between these nodes surely is more than a case can have, before it is seen for each where
-    ways lead. Where turns may be forbidden yet, routes are not counted."""
-    horizon_ms = options.horizon * MINUTE_MS
+def check_pairs(raw: Network, amounts: Amounts, options: OdOptions, all_turns: bool = True) -> None:
+    """TooLarge where demand of which nothing is left out surely is more than a case can have, before it is seen for
+    each pair of nodes where ways lead. Where turns may be forbidden yet, routes are not counted."""
+    if options.destinations is not None or options.leave_out_unreached:
+        return
+    pairs, horizon_ms = pairs_of(raw, amounts), options.horizon * MINUTE_MS
     check_ends(pairs, options, destinations_that_fit(raw, horizon_ms, options.fit or options.step))
     check_cells(raw, pairs.end_names(), options, horizon_ms)
     if all_turns:
         check_routes(raw, pairs.end_names(), options)
+
+
+def check_volumes(volumes: Volumes, options: OdOptions) -> None:
+    """TooLarge where demand between nodes has more destinations, pairs or rows than a case may have."""
+    check_ends(volumes, options)
+    check_rows(volumes, options)
+
+
+def kept_by_node(raw: Network, amounts: Amounts, options: OdOptions, notes: list[str]) -> Volumes:
+    """The demand by nodes that is kept; these are then the ends of the network."""
+    volumes = by_node(raw, amounts, options.leave_out_unreached, notes)
+    if options.destinations is not None and volumes:
+        volumes = fewer_ends(raw, volumes, options.destinations, notes)
+    raw.ends = set(volumes.names)
+    return volumes
 
 
 def by_node(raw: Network, amounts: Amounts, leave_out: bool, notes: list[str]) -> Volumes:

@@ -18,14 +18,14 @@ from ..demand.volumes import Volumes
 from ..files import existing
 from ..network.imported import Imported
 from ..network.entries import without
-from ..network.early import check_ends, check_links
+from ..network.early import check_links
 from ..network.importing import carried
 from ..network.least_routes import least_routes
 from ..network.lengths import unit_by_range
 from ..network.network import LEAST_M, Network, Node, road_of
-from ..network.od_case import OdOptions, case_of, check_rows, check_times, inner_told, departure_parts, size_told
+from ..network.od_case import OdOptions, case_of, check_times, inner_told, departure_parts, size_told
 from ..network.od_entries import enter_zones
-from ..network.od_nodes import by_node, check_pairs, fewer_ends, pairs_of
+from ..network.od_nodes import check_pairs, check_volumes, kept_by_node
 from ..network.placing import Map, places_of
 from ..network.steps import steps_table
 from .reading import TntpLink, TntpNet, read_net, read_places, read_trips
@@ -124,16 +124,11 @@ def read_all(net: StrPath, trips: StrPath, nodes: StrPath | None, options: TntpO
     asked.notes += [*links_told(read, units, options), *trips_told(amounts, said, options)]
     amounts.volumes, amounts.inner = amounts.volumes.scaled(options.scale), amounts.inner * options.scale
     place_zones(asked.network, read, asked.notes)
-    if options.destinations is None and not options.leave_out_unreached:
-        check_pairs(raw, pairs_of(raw, amounts), options)
+    check_pairs(raw, amounts, options)
     if options.entries:
         asked.entries = enter_zones(asked.network, amounts, options, asked.notes)
-    asked.volumes = by_node(asked.network, amounts, options.leave_out_unreached, asked.notes)
-    if options.destinations is not None and asked.volumes:
-        asked.volumes = fewer_ends(asked.network, asked.volumes, options.destinations, asked.notes)
-    check_ends(asked.volumes, options)
-    check_rows(asked.volumes, options)
-    asked.network.ends = set(asked.volumes.names)
+    asked.volumes = kept_by_node(asked.network, amounts, options, asked.notes)
+    check_volumes(asked.volumes, options)
     return asked
 
 
