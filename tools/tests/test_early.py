@@ -77,6 +77,11 @@ class Tntp(TntpTest):
         self.assertIn("there are 2 destinations, and at most 1 may be: give --destinations 1", said)
         self.assertIn("ends at the nearest of them, or --history 0; past".replace("ends", "end"), said)
 
+    def test_what_is_left_out_is_not_counted(self) -> None:
+        """Of two destinations one is kept, which is as many as may be."""
+        with mock.patch.multiple(bounds, MOST_DESTINATIONS_NO_HISTORY=1):
+            self.assertEqual(len(self.made(*KM, "--destinations", "1").destinations), 1)
+
     def test_cells(self) -> None:
         """6 links, 2 destinations and 1,440 slots of 5 s: 8 * 6 * 2 * 1,440 cells or more."""
         words = (*KM, "--history", "1")
@@ -131,6 +136,14 @@ class Gmns(GmnsTest):
             )
         with mock.patch("ltm_tools.gmns.importing.read_gmns", side_effect=AssertionError(LATE)), least():
             self.assertIn("10008 slots of 5000 ms", self.refused("--step", "5s", "--horizon", "834"))
+
+    def test_ends_and_clock(self) -> None:
+        """A node where trips end stays, though roads of 50 m that only lead through it are too short for 5 s."""
+        demand = "o_zone_id,d_zone_id,volume\n1,2,10\n1,3,10\n"
+        self.net(PLAIN.replace(",1000,1,60", ",50,1,60"), "node_id,zone_id\n1,1\n2,2\n3,3\n", demand)
+        case = self.made("--turns", "none", "--fit", "5s", "--start", "7:00")
+        self.assertEqual(case.destinations, ["2", "3"])
+        self.assertEqual((self.folder / "case" / "clock.txt").read_text(), "7:00\n")
 
     def test_rows_and_cells(self) -> None:
         node = "node_id,zone_id\n1,1\n2,\n3,3\n"
