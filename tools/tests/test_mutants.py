@@ -28,18 +28,22 @@ def text(header: Sequence[str], rows: Sequence[Sequence[object]]) -> bytes:
 
 
 def setup_at_random(pick: random.Random) -> bytes:
-    """A setup with some of its columns, most of them those of a city, whose bounds are about what the case has."""
-    values = {
-        "signals": (0,),
-        "limits": (0,),
-        "cells": (1, 1479, 1480, 54_000_000),
-        "rows": (4, 6, 12, 48, 500_000, 8_000_000),
-        "links": (3, 4, 16_000, 40_000),
-        "destinations": (1, 2, 256, 2_000),
-    }
+    """A setup with some of its columns, most of them those of a city; one in 25 of its bounds is about what the case
+    has, or what none may ask for."""
     often = ("rows", "destinations", "history", "routes")
     columns = [column for column in SETUP_MORE if pick.random() < (0.7 if column in often else 0.2)]
-    return text((*SETUP, *columns), [(1000, SLOTS, 1, *(pick.choice(values.get(name, (0, 1))) for name in columns))])
+    keeps_none = "history" in columns and pick.random() < 0.5
+    asked = {
+        "cells": ((54_000_000, 4_294_967_295), (1, 1479, 1480, 4_294_967_296)),
+        "rows": ((100, 8_000_000 if keeps_none else 500_000), (4, 6, 12, 500_001, 8_000_001)),
+        "links": ((5, 40_000 if keeps_none else 16_000), (3, 4, 16_001, 40_001)),
+        "destinations": ((3, 2_000 if keeps_none else 256), (1, 2, 257, 2_001)),
+        "history": ((0,) if keeps_none else (1,), (0, 1, 2)),
+        "signals": ((0,), (2,)),
+        "limits": ((0,), (2,)),
+    }
+    fields = [pick.choice(asked.get(name, ((0, 1), (2,)))[pick.random() < 0.04]) for name in columns]
+    return text((*SETUP, *columns), [(1000, SLOTS, 1, *fields)])
 
 
 def profile_at_random(pick: random.Random) -> bytes:
@@ -53,21 +57,24 @@ def profile_at_random(pick: random.Random) -> bytes:
 def matrix_at_random(pick: random.Random) -> bytes:
     """Records of a matrix, some of the same ends twice."""
     amounts = (0, 1, 2, 5, 999, 4000, 12_345)
-    pairs = [(*pick.choice(PAIRS), short_vehicles(pick.choice(amounts))) for _ in range(pick.randrange(6))]
+    ends = PAIRS if pick.random() < 0.1 else PAIRS[:-1]
+    pairs = [(*pick.choice(ends), short_vehicles(pick.choice(amounts))) for _ in range(pick.randrange(6))]
     return text(MATRIX, pairs)
 
 
 def splits_at_random(pick: random.Random) -> bytes:
     """Splits of the base, or a header alone, which is enough where routes are asked for, or a row that leads astray."""
     rows = [[], [], [("n1", "n3", 0, "a=1"), ("n2", "n3", 0, "e=1 b=1")], [("n2", "n5", 0, "b=1 e=1")]]
-    return (BASE / "splits.csv").read_bytes() if pick.random() < 0.5 else text(SPLITS, pick.choice(rows))
+    if pick.random() < 0.2:
+        return text(SPLITS, pick.choice(rows))
+    return (BASE / "splits.csv").read_bytes() + b"n2,n5,0,e=1\n"
 
 
 @needs_program
 class Mutants(FolderTest):
     def test_changed_at_random(self) -> None:
         """Of each case one file is changed, the setup, the matrix or the profile, and of one in ten two are."""
-        pick, seen, differing = random.Random(93), set(), 0
+        pick, seen, differing, taken = random.Random(93), set(), 0, 0
         (self.folder / "links.csv").write_bytes(LINKS)
         for number in range(MUTANTS):
             made = {
@@ -86,10 +93,12 @@ class Mutants(FolderTest):
             with self.subTest(number, word=word, **made):
                 self.assertEqual(answer, said)
             differing += answer != said
+            taken += said[0] == 0
             words = said[1].split()
             seen.add((said[0], *words[2:3], *words[5:7]) if said[0] == 6 else said[:1])
         self.assertEqual(differing, 0)
         self.assertGreater(len(seen), 20, seen)
+        self.assertGreater(taken, MUTANTS // 40)
 
 
 if __name__ == "__main__":
