@@ -11,7 +11,7 @@ use Rattle.ltm_casefile.specs.declared.faults.CaseFault.{CaseFault}
 use Rattle.ltm_casefile.specs.declared.faults.CaseFault.TheVariants as fault
 use Rattle.ltm_casefile.specs.Case.{asks_for}
 use Rattle.ltm_casefile.specs.Faults.{HasRisen, WasAsked}
-use Rattle.ltm_casefile.specs.Roads.{is_of_roads}
+use Rattle.ltm_casefile.specs.Roads.{is_of_roads, roads_ask}
 use Rattle.ltm_routes_command.specs.declared.lines.RouteLines.{RouteLines}
 use Rattle.ltm_command.specs.declared.words.Command.TheVariants as command
 use Rattle.ltm_command.specs.declared.words.Report.{Report}
@@ -34,24 +34,22 @@ failed report told before now file.Whole asked rose = absurd rose
 
 -- the same of the roads and the demand
 abbrev RoadsFailed : Option Files → (Doc → ℕ) → (Doc → ℕ) → Type 0
-RoadsFailed told before now = (d : Doc) × (is_of_roads d ≡ true) × IfSome told (λ files. is_of_roads d ≡ true) × Rose (before d) (now d)
+RoadsFailed told before now = (d : Doc) × (is_of_roads d ≡ true) × IfSome told (λ files. roads_ask files d ≡ true) × Rose (before d) (now d)
 
-of_roads : (told : Option Files) (before now : Doc → ℕ) (d : Doc) → is_of_roads d ≡ true → Rose (before d) (now d) → RoadsFailed told before now
-of_roads None before now d is rose = (d, is, tt, rose)
-of_roads (Some files) before now d is rose = (d, is, is, rose)
+roads_failed : (told : Option Files) (before now : Doc → ℕ) (f : File) → WasAsked is_of_roads (fault.Folder f)
+    → IfSome told (λ files. WasAsked (roads_ask files) (fault.Folder f)) → HasRisen before now (fault.Folder f) → RoadsFailed told before now
+roads_failed told before now file.Setup asked needed rose = (doc.Setup, asked, needed, rose)
+roads_failed told before now file.Links asked needed rose = (doc.Links, asked, needed, rose)
+roads_failed told before now file.Demand asked needed rose = (doc.Demand, asked, needed, rose)
+roads_failed told before now file.Splits asked needed rose = (doc.Splits, asked, needed, rose)
+roads_failed told before now file.Signals asked needed rose = (doc.Signals, asked, needed, rose)
+roads_failed told before now file.Limits asked needed rose = (doc.Limits, asked, needed, rose)
+roads_failed told before now file.Profile asked needed rose = (doc.Profile, asked, needed, rose)
+roads_failed told before now file.Whole asked needed rose = absurd rose
 
-roads_failed : (told : Option Files) (before now : Doc → ℕ) (f : File) → WasAsked is_of_roads (fault.Folder f) → HasRisen before now (fault.Folder f) → RoadsFailed told before now
-roads_failed told before now file.Setup asked rose = of_roads told before now doc.Setup asked rose
-roads_failed told before now file.Links asked rose = of_roads told before now doc.Links asked rose
-roads_failed told before now file.Demand asked rose = of_roads told before now doc.Demand asked rose
-roads_failed told before now file.Splits asked rose = of_roads told before now doc.Splits asked rose
-roads_failed told before now file.Signals asked rose = of_roads told before now doc.Signals asked rose
-roads_failed told before now file.Limits asked rose = of_roads told before now doc.Limits asked rose
-roads_failed told before now file.Profile asked rose = of_roads told before now doc.Profile asked rose
-roads_failed told before now file.Whole asked rose = absurd rose
-
-pub routes_failed : (which : RouteLines) (told : Option Files) (before now : Doc → ℕ) (f : File) → WasAsked is_of_roads (fault.Folder f) → HasRisen before now (fault.Folder f) → FileFailed (command.Routes which) told before now
-routes_failed which told before now f asked rose = roads_failed told before now f asked rose
+pub routes_failed : (which : RouteLines) (told : Option Files) (before now : Doc → ℕ) (f : File) → WasAsked is_of_roads (fault.Folder f)
+    → IfSome told (λ files. WasAsked (roads_ask files) (fault.Folder f)) → HasRisen before now (fault.Folder f) → FileFailed (command.Routes which) told before now
+routes_failed which told before now f asked needed rose = roads_failed told before now f asked needed rose
 
 -- of the curve file of a case, and of a check
 pub curves_missed : (told : Option Files) (before now : Doc → ℕ) (e : CaseFault)

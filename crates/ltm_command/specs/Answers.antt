@@ -7,7 +7,7 @@ use Rattle.ltm_casefile.specs.declared.faults.CaseFault.{CaseFault}
 use Rattle.ltm_casefile.specs.declared.faults.CaseFault.TheVariants as fault
 use Rattle.ltm_casefile.specs.Case.{case_of, asks_for, is_case_file}
 use Rattle.ltm_casefile.specs.KeptCase.{kept_case_of}
-use Rattle.ltm_casefile.specs.Roads.{is_of_roads}
+use Rattle.ltm_casefile.specs.Roads.{is_of_roads, roads_ask}
 use Rattle.ltm_routes_command.specs.declared.lines.RouteLines.{RouteLines}
 use Rattle.ltm_routes_command.specs.declared.lines.RouteLines.TheVariants as lines
 use Rattle.ltm_routes_command.specs.Routing.{AnswersRoutes}
@@ -114,7 +114,7 @@ may_fetch c d = false
 -- the files that it fetches from a folder with these files
 abbrev pub fetches : Command → Files → Doc → Bool
 fetches (command.Report report) files d = asks_for files d
-fetches (command.Routes which) files d = is_of_roads d
+fetches (command.Routes which) files d = roads_ask files d
 fetches command.Curves files d = asks_for files d
 fetches command.Check files d = check_asks_for files d
 fetches c files d = false

@@ -4,7 +4,7 @@ ghost use Rattle.ltm_io.specs.declared.doc.Doc.{Doc};
 ghost use Rattle.ltm_casefile.specs.declared.faults.File.{File};
 ghost use Rattle.ltm_casefile.specs.declared.faults.CaseFault.{CaseFault};
 ghost use Rattle.ltm_casefile.specs.Case.{is_case_file, asks_for};
-ghost use Rattle.ltm_casefile.specs.Roads.{is_of_roads};
+ghost use Rattle.ltm_casefile.specs.Roads.{is_of_roads, roads_ask};
 ghost use Rattle.ltm_command.specs.declared.words.Command.{Command};
 ghost use Rattle.ltm_try_command.specs.Trial.{IsTrial};
 ghost use Rattle.ltm_command.specs.Words.{IsSized};
@@ -30,6 +30,8 @@ fn routes<F: Folder>(alloc: Global, lines: RouteLines, folder: &mut F) -> Result
     ensures keeps { F.told folder.new ≡ F.told folder.old }
     ensures others { (d : Doc) → is_of_roads d ≡ false
         → F.faults folder.new d ≡ F.faults folder.old d }
+    ensures unasked { IfSome (F.told folder.old) (λ files. (d : Doc)
+        → roads_ask files d ≡ false → F.faults folder.new d ≡ F.faults folder.old d) }
     ensures text { IfOk result (λ text. Answers (Command.Routes lines) (F.told folder.old)
         (Ok text.items)) }
     ensures fault { IfErr result (λ e. AnswersFault (Command.Routes lines) (F.told folder.old)

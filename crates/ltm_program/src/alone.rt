@@ -72,15 +72,16 @@ fn do_alone<R: Threads + Sync, F: OpenFolder, S: Source, W: Sink>(
 ///   line; each answer is written whole before the next line is read.
 /// - `try START NODES` makes a case of the two numbers, loads it, repairs what its batch changes, and writes four lines; it
 ///   touches no file.
-/// - `routes` fetches the setup, the links and the demand, finds the least routes by free-flow time (Dijkstra 1959) and
-///   writes the `splits.csv` that sends traffic along them, in equal parts where several are least.
+/// - `routes` fetches the setup, the links, the demand and the profile of a matrix, finds the least routes by free-flow time
+///   (Dijkstra 1959) and writes the `splits.csv` that sends traffic along them, in equal parts where several are least.
 /// - `routes times` writes the times that these routes take.
 /// - `curves` fetches, reads and loads the case as `load` does, and writes the loading as a curve file.
 /// - `check` reads the case, then opens `curves.csv`, reads it piece by piece, and says whether it is the loading of the case,
 ///   or why not.
 ///
 /// Everything is decided in this order: the words, the fetches, what the files say, the script line by line, the writing.
-/// `signals.csv` and `limits.csv` alone are fetched once the setup was read, each only where the setup asks for it.
+/// `signals.csv` and `limits.csv` alone are fetched once the setup was read, each only where the setup asks for it; `profile.csv`
+/// is fetched only where the demand is a matrix.
 pub fn run_alone<R: Threads + Sync, F: OpenFolder, S: Source, W: Sink>(
     rt: &R,
     alloc: Global,

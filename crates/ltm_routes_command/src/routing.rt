@@ -1,12 +1,12 @@
 //! The roads and the demand of a case, and what least routes over them make of it.
-ghost use Rattle.std.specs.Prelude.{◌≡◌, ◌≤◌, ℕ, [], length, Ok, Err, IfOk, IfErr, OnOk, true, false};
+ghost use Rattle.std.specs.Prelude.{◌≡◌, ◌≤◌, ℕ, [], length, Ok, Err, IfOk, IfErr, OnOk, true, false, IfSome};
 ghost use Rattle.ltm_io.specs.declared.doc.Doc.{Doc};
 ghost use Rattle.ltm_scenario.specs.Data.{ScenarioData};
 ghost use Rattle.ltm_scenario.specs.IsScenario.{IsScenario};
 ghost use Rattle.ltm_scenario.specs.Valid.{IsValid};
 ghost use Rattle.ltm_casefile.specs.Case.{whole};
 ghost use Rattle.ltm_casefile.specs.Faults.{Says, HasRisen, WasAsked};
-ghost use Rattle.ltm_casefile.specs.Roads.{is_of_roads};
+ghost use Rattle.ltm_casefile.specs.Roads.{is_of_roads, roads_ask};
 ghost use Rattle.ltm_routes.specs.Split.{AreAllRoutes, route_splits, with_splits, KeepsRest};
 ghost use Rattle.ltm_routes_command.specs.Routing.{routed, is_readable, RoutesAnswer, AnswersRoutes, SaysOfRoutes, AnswersFault};
 ghost use Rattle.ltm_routes_command.specs.File.{IsSplitsOf, IsTimesOf, IsSplitsFile, IsTimesFile};
@@ -88,9 +88,9 @@ fn is_readable(lines: RouteLines, text: &[u8]) -> bool
 /// The lines of least free-flow routes over what the setup, the links and the demand of a folder say: for each node and
 /// destination with a route, in order of destination, then of node, the record of its split row or the time of its routes.
 ///
-/// The first fault is told: of these files, and of the profile of a matrix, as `read_roads` has it; then more route splits than the setup allows; then the
-/// first rule of a valid case that is broken once they are set, with row 0 of the whole case; then splits that are too long to
-/// be read. The setup may ask for signals and for entry limits; neither is fetched.
+/// The first fault is told: of these files, and of the profile of a matrix, as `read_roads` has it; then more route splits than
+/// the setup allows; then the first rule of a valid case that is broken once they are set, with row 0 of the whole case; then
+/// splits that are too long to be read. The setup may ask for signals and for entry limits; neither is fetched.
 pub fn route_text<F: Folder>(
     alloc: Global,
     lines: RouteLines,
@@ -105,14 +105,19 @@ pub fn route_text<F: Folder>(
     ensures times { lines ≡ RouteLines.Times
         → IfOk result (λ text. IsTimesFile (F.told folder.old) text.items) }
 
-    // A file is not given only where its count of faults rose in this call, and it is one of these or the profile.
+    // A file is not given only where its count of faults rose in this call, and it is one of these, or the profile where the
+    // demand is a matrix.
     ensures risen { IfErr result (HasRisen (F.faults folder.old) (F.faults folder.new)) }
     ensures asked { IfErr result (WasAsked is_of_roads) }
+    ensures needed { IfErr result (λ e. IfSome (F.told folder.old)
+        (λ files. WasAsked (roads_ask files) e)) }
 
     ensures keeps { F.told folder.new ≡ F.told folder.old }
     ensures later { (d : Doc) → F.faults folder.old d ≤ F.faults folder.new d }
     ensures others { (d : Doc) → is_of_roads d ≡ false
         → F.faults folder.new d ≡ F.faults folder.old d }
+    ensures unasked { IfSome (F.told folder.old) (λ files.
+        (d : Doc) → roads_ask files d ≡ false → F.faults folder.new d ≡ F.faults folder.old d) }
 {
     routes_settle();
     match read_roads(alloc, folder) {
